@@ -1,0 +1,6 @@
+-- The laws: loops over lists, walks on the rest of a list, tables, rows of refusals.
+-- Assumes nothing.
+pub mod LoopLaws
+pub mod RestLaws
+pub mod TableLaws
+pub mod RowLaws

@@ -1,0 +1,3 @@
+-- The definitions that the laws of this crate speak of, and that contracts above may cite.
+-- Assumes nothing.
+pub mod Rows

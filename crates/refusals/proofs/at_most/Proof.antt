@@ -1,0 +1,71 @@
+-- `refusals::at_most` meets its contract: what the test says of the column is what the flag and the rest of it say.
+-- Assumes nothing.
+use mathlib.Core.Path.{_≡_, ap, _∙_}
+use mathlib.Core.Bool.{Bool, cond, not, _&&_}
+use Prim.Native.Nat.{_-_, _≤_}
+use borrow.Author.Needs.{needs}
+use lib.ListN.{length, drop, drop-of-length-le}
+use Rattle.laws.proofs.LoopLaws.{flag-stays, flag-falls, flag-ends}
+use Rattle.refusals.specs.Columns.{atMost}
+use Rattle.refusals.proofs.ColumnLaws.{atMost-passes, atMost-fails}
+use Rattle.refusals.proofs.at_most.Statement.{statement}
+use Rattle.refusals.proofs.at_most.Tie as tie
+
+abbrev Inv-loop : tie.InvT-loop
+Inv-loop column most ok₀ i₀ ok i = (i ≤ length column) × (atMost most column ≡ (ok && atMost most (drop i column)))
+
+abbrev μ-loop : tie.MeasureT-loop
+μ-loop column most ok₀ i₀ ok i = length column - i
+
+loop-holds : tie.Need-loop-holds Inv-loop μ-loop
+loop-holds c = search needs
+
+shared-slice-read-if1 : tie.Need-shared-slice-read-if1 Inv-loop μ-loop
+shared-slice-read-if1 c = search needs
+
+add-i : tie.Need-add-i Inv-loop μ-loop
+add-i c = search needs
+
+loop-less : tie.Need-loop-less Inv-loop μ-loop
+loop-less c = search needs
+
+loop-again : tie.Need-loop-again Inv-loop μ-loop
+loop-again c =
+    let l = c .before .before .before .loop in
+    (search needs, flag-falls (l .ok) (l .inv .1) (atMost-fails _ _ _ (c .before .before .loop-test .taken) (c .if1 .taken)))
+
+add-i-2 : tie.Need-add-i-2 Inv-loop μ-loop
+add-i-2 c = search needs
+
+loop-less-2 : tie.Need-loop-less-2 Inv-loop μ-loop
+loop-less-2 c = search needs
+
+loop-again-2 : tie.Need-loop-again-2 Inv-loop μ-loop
+loop-again-2 c =
+    let l = c .before .before .before .loop in
+    (search needs, flag-stays (l .ok) (l .inv .1) (atMost-passes _ _ _ (c .before .before .loop-test .taken) (c .if1 .left)))
+
+unless-requires : tie.Need-unless-requires Inv-loop μ-loop
+unless-requires c κs = search needs
+
+returns : tie.Need-returns Inv-loop μ-loop
+returns c =
+    let l = c .before .before .loop in
+    c .unless .ensures ∙ ap (λ (b : Bool). cond (not b) 3 0) (flag-ends (l .ok) (l .inv .1) (ap (atMost _) (drop-of-length-le _ (c .before .loop-test .left))))
+
+pub at-most-spec : {M : Type 1} → statement M
+at-most-spec =
+    tie.close
+    (tie.spec
+    Inv-loop
+    μ-loop
+    loop-holds
+    shared-slice-read-if1
+    add-i
+    loop-less
+    loop-again
+    add-i-2
+    loop-less-2
+    loop-again-2
+    unless-requires
+    returns)

@@ -151,7 +151,11 @@ impl Draw {
     /// A length of at most `most`: half of the time one of those around the limit, otherwise any.
     pub fn length(&mut self, limit: usize, most: usize) -> usize {
         let edges: Vec<usize> = around(limit).into_iter().filter(|&n| n <= most).collect();
-        if self.once_in(2) { self.one_of(&edges) } else { self.between(0, most) }
+        if self.once_in(2) {
+            self.one_of(&edges)
+        } else {
+            self.between(0, most)
+        }
     }
 }
 

@@ -3,8 +3,7 @@
     python3 oracle/unicode_data.py FOLDER
 
 FOLDER/gc.bin and FOLDER/ccc.bin get one byte for each code from 0 to 10FFFF: the general category, numbered in
-alphabetical order of the two-letter codes (Cc 0, Zs 29), and the canonical combining class. FOLDER/version gets the
-version of Unicode that they are of.
+alphabetical order of the two-letter codes (Cc 0, Zs 29), and the canonical combining class.
 """
 
 import pathlib
@@ -20,7 +19,6 @@ def main():
     chars = [chr(code) for code in range(0x110000)]
     (folder / "gc.bin").write_bytes(bytes(number[unicodedata.category(c)] for c in chars))
     (folder / "ccc.bin").write_bytes(bytes(unicodedata.combining(c) for c in chars))
-    (folder / "version").write_text(unicodedata.unidata_version + "\n")
 
 
 main()

@@ -1,0 +1,61 @@
+// Replays cases of resolved types: types u8 and categories u8 go in, the resolved types u8 come out.
+use letters::Category;
+use letters::JoiningType;
+use replays::Case;
+use replays::Outcome;
+
+// Resolves each record to the start of the room, as many as both columns and the room have; answers how many.
+fn resolve(types: &[u8], categories: &[u8], room: &mut [u8]) -> usize {
+    let mut i: usize = 0;
+    while i < types.len() && i < categories.len() && i < room.len() {
+        let t = letters::get_joining_type(
+            JoiningType(types[i]),
+            Category(categories[i]),
+        );
+        room[i] = t.0;
+        i += 1;
+    }
+    i
+}
+
+// Makes the call of a case and compares.
+fn replay(body: &[u8], room: &mut [u8]) -> Outcome {
+    let mut at: usize = 0;
+    let types = cases::view_u8(body, &mut at, 4200);
+    let categories = cases::view_u8(body, &mut at, 4200);
+    let n = resolve(types, categories, room);
+    let agrees = cases::same_u8(body, &mut at, replays::front(room, n));
+    let formed = replays::both(types.len() == categories.len(), at == body.len());
+    replays::judged(formed, agrees)
+}
+
+// Lends the room for the answers, and nothing more.
+fn lend(body: &[u8]) -> Outcome {
+    let mut room = [0u8; 4200];
+    replay(body, &mut room)
+}
+
+// Reads a case into the room lent, and replays it.
+fn read(body: &mut [u8]) -> Outcome {
+    let c = replays::next(body);
+    let Case::Body(n) = c else {
+        return replays::stopped(c);
+    };
+    lend(replays::front(body, n))
+}
+
+// One case: three columns of 4,200 bytes and their heads fit.
+fn turn() -> Outcome {
+    let mut body = [0u8; 16384];
+    read(&mut body)
+}
+
+fn main() {
+    let mut tally = replays::begin();
+    let mut what = turn();
+    while replays::goes_on(tally, what) {
+        tally = replays::tell(tally, what);
+        what = turn();
+    }
+    replays::finish(b"replay_types", tally, what);
+}

@@ -1,0 +1,3 @@
+-- The laws that the proofs of `cases` share.
+-- Assumes nothing.
+pub mod FormLaws

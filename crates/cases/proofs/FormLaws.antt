@@ -67,6 +67,11 @@ module _ (body : List ℕ) (w most at : ℕ) where
   unfolding columnAt elements
   found-none off = record { inside = omega arith; few = omega arith; is = rw (fits-false off) }
 
+  -- Where a cursor is lost, it stays so.
+  pub lost-stays : at ≡ lost → length body ≤ lost → columnAt body w most at ≡ Took [] lost
+  unfolding columnAt
+  lost-stays e h = rw (fits-false (λ f. omega (arith, f .head)))
+
   -- Where one does, it is found.
   pub found-whole : (count : ℕ) → count ≡ numberAt body 4 at → getD body (at + 4) 0 ≡ w → at + 5 + count * w ≤ length body
       → count ≤ most → Found body w most at (at + 5) count (at + 5 + count * w)

@@ -1,3 +1,4 @@
--- The laws that the proofs of `cases` share.
+-- The laws that the proofs of `cases` share, and the form's examples.
 -- Assumes nothing.
 pub mod FormLaws
+pub mod FormExamples

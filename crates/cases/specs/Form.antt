@@ -1,15 +1,16 @@
--- The form of a case's body: columns, one after the other.
+-- The form of a case's body: columns, one after the other, each taken at a cursor.
 --   numberAt    the number in some bytes from a place on
 --   elements    so many numbers from a place on
 --   lost        the cursor past every body
---   fits        whether a column that is asked for stands at the cursor
+--   fits        whether the column that is asked for stands at the cursor
 --   Taken       the elements of a column, and the cursor behind it
 --   columnAt    what is taken at a cursor
 --   same        whether two lists are the same
 --   Compared    whether a column is what was got, and the cursor behind it
+--   against     what was taken, held against what was got
 --   comparedAt  what comparing at a cursor gives
---   Number      what reading one number gives
---   Span        where a column was found
+--   Number      what reading one number promises
+--   Found       what looking for a column promises
 -- Assumes nothing.
 use Prim.Native.Nat.{ℕ, zero, suc, _+_, _*_, _^_, _≤_, _<_}
 use mathlib.Core.Bool.{Bool, true, false, cond, _&&_}
@@ -62,7 +63,7 @@ same (x ∷ xs) (y ∷ ys) = eqb x y && same xs ys
 pub data Compared : Type 0 where
   Compare : (agrees : Bool) → (next : ℕ) → Compared
 
--- A column that was taken, held against what was got.
+-- What was taken, held against what was got.
 abbrev pub against : List ℕ → Taken → Compared
 against got (Took elements next) = Compare (same elements got) next
 
@@ -71,12 +72,13 @@ against got (Took elements next) = Compare (same elements got) next
 abbrev pub comparedAt : List ℕ → ℕ → List ℕ → ℕ → Compared
 comparedAt body w got at = against got (columnAt body w (length body) at)
 
--- What reading one number gives: the number in w bytes from a place on, which those bytes can hold.
+-- What reading one number promises: it is the number in w bytes from a place on, and no more than they can hold.
 pub record Number (bytes : List ℕ) (w at r : ℕ) : Type 0 where
   pub is : r ≡ numberAt bytes w at
   pub below : r < 256 ^ w
 
--- Where a column was found: `count` elements from a place on that all lie in the body, and what is taken there. None, for a column that is not there.
+-- What looking for a column promises: `count` elements from `from` on, not too many, which all lie in the body, are what is taken at
+-- the cursor. Where the bytes are of another form, there are none of them and `next` is lost.
 pub record Found (body : List ℕ) (w most at from count next : ℕ) : Type 0 where
   pub inside : from + count * w ≤ length body
   pub few : count ≤ most

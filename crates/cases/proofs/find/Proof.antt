@@ -1,63 +1,47 @@
+-- `cases::find` meets its contract: each test that fails is one of the four of `fits`, and where none fails the column is whole.
+-- Assumes nothing.
 use borrow.Author.Needs.{needs}
 use native.Mathlib.Omega.{arith}
 use Rattle.cases.proofs.FormLaws.{number-times, found-none, found-whole}
 use Rattle.cases.proofs.find.Statement.{statement}
 use Rattle.cases.proofs.find.Tie as tie
-use Rattle.cases.proofs.find.Reads as reads
-use Rattle.cases.proofs.find.Lts as lts
-use Rattle.cases.proofs.left.Reads as left-reads
-use Rattle.cases.proofs.number.Reads as number-reads
-use Rattle.cases.proofs.wide.Reads as wide-reads
 
--- src/lib.rt:59:9
 left-requires : tie.Need-left-requires
 left-requires c κs = search needs
 
--- src/lib.rt:61:9
 returns : tie.Need-returns
 returns c = found-none _ _ _ _ (λ f. omega (arith, f .head))
 
--- src/lib.rt:63:18
 add-wide : tie.Need-add-wide
 add-wide c = search needs
 
--- src/lib.rt:63:13
 shared-slice-read-wide : tie.Need-shared-slice-read-wide
 shared-slice-read-wide c = search needs
 
--- src/lib.rt:63:8
 wide-requires : tie.Need-wide-requires
 wide-requires c κs = search needs
 
--- src/lib.rt:64:9
 returns-2 : tie.Need-returns-2
 returns-2 c = found-none _ _ _ _ (λ f. omega (arith, f .width))
 
--- src/lib.rt:66:9
 number-requires : tie.Need-number-requires
 number-requires c κs = search needs
 
--- src/lib.rt:68:9
 returns-3 : tie.Need-returns-3
 returns-3 c = found-none _ _ _ _ (λ f. omega (arith, f .few))
 
--- src/lib.rt:70:17
 mul-bytes : tie.Need-mul-bytes
 mul-bytes c = omega (arith, number-times (c .before .number .ensures) (c .before .before .before .before .before .before .before .before .pre))
 
--- src/lib.rt:72:9
 returns-4 : tie.Need-returns-4
 returns-4 c = found-none _ _ _ _ (λ f. omega (arith, rw (← (c .before .before .number .ensures .is)) at (f .inside)))
 
--- src/lib.rt:74:16
 add-from : tie.Need-add-from
 add-from c = search needs
 
--- src/lib.rt:78:15
 add-t11 : tie.Need-add-t11
 add-t11 c = search needs
 
--- src/lib.rt:55:1
 returns-5 : tie.Need-returns-5
 returns-5 c = found-whole _ _ _ _ _ (c .before .before .number .ensures .is) (omega arith) (omega arith) (omega arith)
 

@@ -8,7 +8,6 @@ use Rattle.cases.specs.Form.{Number}
 use Rattle.cases.proofs.FormLaws.{number-none, number-more, number-small}
 use Rattle.cases.proofs.number.Statement.{statement}
 use Rattle.cases.proofs.number.Tie as tie
-use Rattle.cases.proofs.number.Lts as lts
 
 abbrev Inv-loop : tie.InvT-loop
 Inv-loop bytes at width n₀ i₀ n i = (i ≤ width) × Number bytes i at n

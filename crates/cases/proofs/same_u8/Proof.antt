@@ -1,3 +1,5 @@
+-- `cases::same_u8` meets its contract: the first `i` elements are those of `got`, the others lie from `k` on.
+-- Assumes nothing.
 use Prim.Native.Nat.{_-_}
 use mathlib.Core.Path.{_≡_, refl}
 use native.Mathlib.Omega.{arith}

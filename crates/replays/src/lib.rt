@@ -1,0 +1,232 @@
+// Replaying cases: read from standard input, counted, and what differs is told on standard output.
+//
+// A program reads a case to lent room by `next`, takes its body apart by the crate `cases`, makes the call, and says by `judged`
+// what the case comes to. Its `main` is a loop of `goes_on` and `tell`, and `finish` behind it.
+use libc::STDIN_FILENO;
+use libc::STDOUT_FILENO;
+ghost use mathlib.Core.Path.{_≡_};
+ghost use mathlib.Core.Bool.{true, _&&_};
+ghost use lib.Dec.{ltb};
+ghost use lib.ListN.{length, take};
+ghost use Rattle.replays.specs.Reading.{within, flag, yes};
+ghost use Rattle.replays.specs.Verdicts.{stopped, judged, isCase, isOff, up, counted, goesOn};
+
+// A case: the bytes of its body, or the end of the input, or bytes that are no case.
+pub enum Case {
+    Body(usize),
+    End,
+    Unreadable,
+}
+
+// What a case comes to: it is as it must be, or not; or the input ends; or there is no such case.
+pub enum Outcome {
+    Same,
+    Differs,
+    End,
+    Unreadable,
+}
+
+// How many cases there were, and how many of them differ.
+pub struct Tally {
+    pub cases: u64,
+    pub differ: u64,
+}
+
+// The length of the next body, as the input says it.
+fn announced() -> Case {
+    let mut four = [0u8; 4];
+    let n = io::read_full(STDIN_FILENO, &mut four);
+    if n == 0 {
+        return Case::End;
+    }
+    if n < 4 {
+        return Case::Unreadable;
+    }
+    Case::Body(cases::number(&four, 0, 4))
+}
+
+// Reads a body of `n` bytes to the start of the room.
+fn fill(body: &mut [u8], n: usize) -> Case
+    ensures { λ r. ⌜ within r (length (now (body .entry))) ≡ true ⌝ }
+{
+    if body.len() < n {
+        return Case::Unreadable;
+    }
+    let start: usize = 0;
+    if io::read_full(STDIN_FILENO, &mut body[start..n]) == n {
+        return Case::Body(n);
+    }
+    Case::Unreadable
+}
+
+// Reads the next case's body to the start of the room. One that is longer than the room counts as unreadable.
+pub fn next(body: &mut [u8]) -> Case
+    ensures { λ r. ⌜ within r (length (now (body .entry))) ≡ true ⌝ }
+{
+    match announced() {
+        Case::Body(n) => fill(body, n),
+        Case::End => Case::End,
+        Case::Unreadable => Case::Unreadable,
+    }
+}
+
+// The first `n` bytes of the room, or all if there are fewer.
+pub fn front<'a>(room: &'a [u8], n: usize) -> &'a [u8]
+    ensures { λ r. ⌜ now r ≡ take n (now (room .entry)) ⌝ }
+{
+    if room.len() < n {
+        return room;
+    }
+    let start: usize = 0;
+    &room[start..n]
+}
+
+// What it comes to that there is no body.
+pub fn stopped(c: Case) -> Outcome
+    ensures { λ r. ⌜ r ≡ stopped c ⌝ }
+{
+    match c {
+        Case::Body(_) => Outcome::Unreadable,
+        Case::End => Outcome::End,
+        Case::Unreadable => Outcome::Unreadable,
+    }
+}
+
+// A yes-or-no is one byte, 0 or 1.
+pub fn is_flag(column: &[u8]) -> bool
+    ensures { λ r. ⌜ r ≡ flag (now (column .entry)) ⌝ }
+{
+    if column.len() != 1 {
+        return false;
+    }
+    column[0] < 2
+}
+
+// A yes is the byte 1.
+pub fn is_set(column: &[u8]) -> bool
+    ensures { λ r. ⌜ r ≡ yes (now (column .entry)) ⌝ }
+{
+    if column.len() != 1 {
+        return false;
+    }
+    column[0] == 1
+}
+
+// Two findings as one, so that a program that has several stays one path.
+pub fn both(a: bool, b: bool) -> bool
+    ensures { λ r. ⌜ r ≡ (a && b) ⌝ }
+{
+    if a { b } else { false }
+}
+
+// What a case comes to, by whether its body is of the form and whether every comparison agrees.
+pub fn judged(formed: bool, agrees: bool) -> Outcome
+    ensures { λ r. ⌜ r ≡ judged formed agrees ⌝ }
+{
+    if formed {
+        if agrees {
+            Outcome::Same
+        } else {
+            Outcome::Differs
+        }
+    } else {
+        Outcome::Unreadable
+    }
+}
+
+// Before the first case.
+pub fn begin() -> Tally
+    ensures { λ r. ⌜ (r .cases ≡ 0) × (r .differ ≡ 0) ⌝ }
+{
+    Tally {
+        cases: 0,
+        differ: 0,
+    }
+}
+
+// Whether it is a case at all, and no end of them.
+fn is_case(what: Outcome) -> bool
+    ensures { λ r. ⌜ r ≡ isCase what ⌝ }
+{
+    match what {
+        Outcome::Same => true,
+        Outcome::Differs => true,
+        Outcome::End => false,
+        Outcome::Unreadable => false,
+    }
+}
+
+fn is_off(what: Outcome) -> bool
+    ensures { λ r. ⌜ r ≡ isOff what ⌝ }
+{
+    match what {
+        Outcome::Same => false,
+        Outcome::Differs => true,
+        Outcome::End => false,
+        Outcome::Unreadable => false,
+    }
+}
+
+fn below(n: u64, limit: u64) -> bool
+    ensures { λ r. ⌜ r ≡ ltb n limit ⌝ }
+{
+    n < limit
+}
+
+// Whether this is a case that can be counted. A loop that asks it ends: the tally grows with each case.
+pub fn goes_on(t: Tally, what: Outcome) -> bool
+    ensures { λ r. ⌜ r ≡ goesOn t what ⌝ }
+{
+    both(is_case(what), below(t.cases, 18446744073709551615))
+}
+
+// One more, if asked for.
+fn up(more: bool, n: u64) -> u64
+    ensures { λ r. ⌜ r ≡ up more n ⌝ }
+{
+    if !more {
+        return n;
+    }
+    if n < 18446744073709551615 {
+        return n + 1;
+    }
+    n
+}
+
+// The tally with one more case.
+pub fn counted(t: Tally, what: Outcome) -> Tally
+    ensures { λ r. ⌜ r ≡ counted t what ⌝ }
+{
+    Tally {
+        cases: up(is_case(what), t.cases),
+        differ: up(is_off(what), t.differ),
+    }
+}
+
+// Counts a case, and says that it differs unless ten were told.
+pub fn tell(t: Tally, what: Outcome) -> Tally
+    ensures { λ r. ⌜ r ≡ counted t what ⌝ }
+{
+    if both(is_off(what), below(t.differ, 10)) {
+        io::write_all(STDOUT_FILENO, b"case ");
+        io::print_decimal(STDOUT_FILENO, t.cases);
+        io::write_all(STDOUT_FILENO, b" differs\n");
+    }
+    counted(t, what)
+}
+
+// The last line: how many cases there were and how many differ, or which one is unreadable.
+pub fn finish(name: &[u8], t: Tally, what: Outcome) {
+    io::write_all(STDOUT_FILENO, name);
+    if let Outcome::Unreadable = what {
+        io::write_all(STDOUT_FILENO, b": unreadable at case ");
+        io::print_decimal(STDOUT_FILENO, t.cases);
+        io::write_all(STDOUT_FILENO, b"\n");
+        return;
+    }
+    io::write_all(STDOUT_FILENO, b": ");
+    io::print_decimal(STDOUT_FILENO, t.cases);
+    io::write_all(STDOUT_FILENO, b" cases, ");
+    io::print_decimal(STDOUT_FILENO, t.differ);
+    io::write_all(STDOUT_FILENO, b" differ\n");
+}

@@ -1,21 +1,26 @@
 // Replays cases of resolved types: types u8 and categories u8 go in, the resolved types u8 come out.
+ghost use Prim.Native.Nat.{_≤_};
 use letters::Category;
 use letters::JoiningType;
 use replays::Case;
 use replays::Outcome;
 
+fn shorter(a: usize, b: usize) -> usize
+    ensures { λ r. ⌜ (r ≤ a) × (r ≤ b) ⌝ }
+{
+    if a < b { a } else { b }
+}
+
 // Resolves each record to the start of the room, as many as both columns and the room have; answers how many.
 fn resolve(types: &[u8], categories: &[u8], room: &mut [u8]) -> usize {
+    let n = shorter(shorter(types.len(), categories.len()), room.len());
     let mut i: usize = 0;
-    while i < types.len() && i < categories.len() && i < room.len() {
-        let t = letters::get_joining_type(
-            JoiningType(types[i]),
-            Category(categories[i]),
-        );
+    while i < n {
+        let t = letters::get_joining_type(JoiningType(types[i]), Category(categories[i]));
         room[i] = t.0;
         i += 1;
     }
-    i
+    n
 }
 
 // Makes the call of a case and compares.

@@ -4,7 +4,7 @@ use Prim.Native.Nat.{ℕ, zero, suc, _+_, _-_, _*_, _^_, _≤_, _<_}
 use mathlib.Core.Bool.{Bool, true, false, _&&_, false≢true}
 use mathlib.Core.List.{List, [], _∷_, _++_, append-nil}
 use mathlib.Core.Path.{_≡_, refl, sym, ap, ap₂, _∙_}
-use native.Mathlib.Nat.{add-zero, zero-add, add-sub-cancel-left, sub-zero, pow-suc, pow-le-pow-right, lt-of-lt-of-le, mul-le-mul, suc-mul}
+use native.Mathlib.Nat.{add-zero, zero-add, add-sub-cancel-left, pow-suc, pow-le-pow-right, lt-of-lt-of-le, mul-le-mul, suc-mul}
 use native.Mathlib.Numerals.{add-one}
 use native.Mathlib.Omega.{arith}
 use lib.Dec.{eqb}
@@ -108,6 +108,12 @@ same-false l m off = go (same l m) refl
     go true e = absurd (off (same-true l m e))
     go false e = refl
 
+-- The elements are as many as are asked for.
+pub length-elements : (body : List ℕ) (w from n : ℕ) → length (elements body w from n) ≡ n
+unfolding elements
+length-elements body w from zero = refl
+length-elements body w from (suc n) = ap suc (length-elements body w (from + w) n)
+
 -- A column of n elements from a place on, of which the first i are those of l, and the others lie from k on. Reading has for l the
 -- column that is filled, comparing the one that is held against it.
 pub record Passed (body : List ℕ) (w n from : ℕ) (l : List ℕ) (k i : ℕ) : Type 0 where
@@ -165,9 +171,13 @@ module _ (body : List ℕ) (w n from : ℕ) where
       go (suc r) c s = absurd (omega arith)
 
   -- All are read: the start of l is what is taken.
-  pub passed-taken : (most at next : ℕ) (l : List ℕ) (k i : ℕ) → Found body w most at from n next → n ≤ i
-      → Passed body w n from l k i → Took (take (n - 0) l) next ≡ columnAt body w most at
-  passed-taken most at next l k i f h p = rw (sub-zero, ← passed-all l k i h p) (f .is)
+  pub passed-taken : {most at next : ℕ} (l : List ℕ) (k i : ℕ) → Found body w most at from n next → n ≤ i
+      → Passed body w n from l k i → Took (take n l) next ≡ columnAt body w most at
+  passed-taken l k i f h p = rw (← passed-all l k i h p) (f .is)
+
+  -- And it is as long as it must be.
+  pub passed-length : (l : List ℕ) (k i : ℕ) → n ≤ i → Passed body w n from l k i → n ≡ length (take n l)
+  passed-length l k i h p = sym (length-elements body w from n) ∙ ap length (passed-all l k i h p)
 
   -- All are compared: the column is l.
   pub passed-same : (l : List ℕ) (k i : ℕ) → n ≡ length l → n ≤ i
@@ -195,12 +205,6 @@ found-compared l f e = rw (← (f .is), e)
 -- Lists of other lengths are not the same.
 pub same-count : (l m : List ℕ) → (length l ≡ length m → ⊥) → same l m ≡ false
 same-count l m off = same-false l m (λ e. off (ap length e))
-
--- The elements are as many as are asked for.
-pub length-elements : (body : List ℕ) (w from n : ℕ) → length (elements body w from n) ≡ n
-unfolding elements
-length-elements body w from zero = refl
-length-elements body w from (suc n) = ap suc (length-elements body w (from + w) n)
 
 -- One byte is its number.
 byte-is : (bytes : List ℕ) (at : ℕ) → numberAt bytes 1 at ≡ getD bytes at 0

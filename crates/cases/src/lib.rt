@@ -104,8 +104,7 @@ pub fn take_u8<'a>(body: &[u8], at: &mut usize, out: &'a mut [u8]) -> &'a mut [u
         k += 1;
         i += 1;
     }
-    let start: usize = 0;
-    &mut out[start..count]
+    &mut out[..count]
 }
 
 pub fn take_u16<'a>(body: &[u8], at: &mut usize, out: &'a mut [u16]) -> &'a mut [u16]
@@ -121,8 +120,7 @@ pub fn take_u16<'a>(body: &[u8], at: &mut usize, out: &'a mut [u16]) -> &'a mut 
         k += 2;
         i += 1;
     }
-    let start: usize = 0;
-    &mut out[start..count]
+    &mut out[..count]
 }
 
 pub fn take_u32<'a>(body: &[u8], at: &mut usize, out: &'a mut [u32]) -> &'a mut [u32]
@@ -138,8 +136,7 @@ pub fn take_u32<'a>(body: &[u8], at: &mut usize, out: &'a mut [u32]) -> &'a mut 
         k += 4;
         i += 1;
     }
-    let start: usize = 0;
-    &mut out[start..count]
+    &mut out[..count]
 }
 
 // The column at the cursor is what `got` has, in number and in each element.

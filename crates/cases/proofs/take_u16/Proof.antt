@@ -5,7 +5,7 @@ use mathlib.Core.Path.{_≡_, refl}
 use native.Mathlib.Omega.{arith}
 use borrow.Author.Needs.{needs}
 use lib.ListN.{length, length-set}
-use Rattle.cases.proofs.FormLaws.{Passed, passed-none, passed-inside, passed-stored, passed-taken}
+use Rattle.cases.proofs.FormLaws.{Passed, passed-none, passed-inside, passed-stored, passed-taken, passed-length}
 use Rattle.cases.proofs.take_u16.Statement.{statement}
 use Rattle.cases.proofs.take_u16.Tie as tie
 
@@ -47,22 +47,13 @@ loop-again c =
     let p = c .before .before .loop .inv in
     (simp length-set (p .0), passed-stored _ _ _ _ _ _ _ _ (c .before .loop-test .taken) (omega arith) (c .number .ensures) (p .1))
 
-mul-out-2 : tie.Need-mul-out-2 Inv-loop μ-loop
-mul-out-2 c = search needs
-
-sub-result : tie.Need-sub-result Inv-loop μ-loop
-sub-result c = search needs
-
-part-out-start : tie.Need-part-out-start Inv-loop μ-loop
-part-out-start c = search needs
-
-part-out-end : tie.Need-part-out-end Inv-loop μ-loop
-part-out-end c = search needs
+slice-aggregate-result : tie.Need-slice-aggregate-result Inv-loop μ-loop
+slice-aggregate-result c = passed-length _ _ _ _ _ _ _ (c .before .loop-test .left) (c .before .before .loop .inv .1)
 
 returns : tie.Need-returns Inv-loop μ-loop
 returns c =
-    let a = c .before .before in
-    passed-taken _ _ _ _ _ _ _ _ _ _ (a .before .find .ensures) (c .before .loop-test .left) (a .loop .inv .1)
+    let l = c .before .before in
+    passed-taken _ _ _ _ _ _ _ (l .before .find .ensures) (c .before .loop-test .left) (l .loop .inv .1)
 
 pub take-u16-spec : {M : Type 1} → statement M
 take-u16-spec =
@@ -80,8 +71,5 @@ take-u16-spec =
     add-i
     loop-less
     loop-again
-    mul-out-2
-    sub-result
-    part-out-start
-    part-out-end
+    slice-aggregate-result
     returns)

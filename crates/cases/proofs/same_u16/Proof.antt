@@ -5,7 +5,8 @@ use mathlib.Core.Path.{_≡_, refl}
 use native.Mathlib.Omega.{arith}
 use borrow.Author.Needs.{needs}
 use lib.ListN.{length}
-use Rattle.cases.proofs.FormLaws.{Passed, passed-none, passed-inside, passed-equal, passed-same, passed-off, found-compared, same-count, length-elements}
+use Rattle.columns.proofs.FormLaws.{Passed, passed-none, passed-inside, passed-equal, length-elements}
+use Rattle.cases.proofs.ComparingLaws.{same-count, passed-same, passed-off, found-compared}
 use Rattle.cases.proofs.same_u16.Statement.{statement}
 use Rattle.cases.proofs.same_u16.Tie as tie
 

@@ -1,17 +1,16 @@
 -- Laws on the numbers and columns of a body, over the width.
 -- Assumes nothing.
 use Prim.Native.Nat.{ℕ, zero, suc, _+_, _-_, _*_, _^_, _≤_, _<_}
-use mathlib.Core.Bool.{Bool, true, false, _&&_, false≢true}
+use mathlib.Core.Bool.{Bool, true, false, _&&_}
 use mathlib.Core.List.{List, [], _∷_, _++_, append-nil}
-use mathlib.Core.Path.{_≡_, refl, sym, ap, ap₂, _∙_}
+use mathlib.Core.Path.{_≡_, refl, sym, ap, _∙_}
 use native.Mathlib.Nat.{add-zero, zero-add, add-sub-cancel-left, pow-suc, pow-le-pow-right, lt-of-lt-of-le, mul-le-mul, suc-mul}
 use native.Mathlib.Numerals.{add-one}
 use native.Mathlib.Omega.{arith}
-use lib.Dec.{eqb}
 use lib.ListN.{length, getD, set, take, drop}
-use lib.Seq.{drop-cons, take-suc, take-suc-set, append-snoc, getD-at, length-take-le, take-length}
+use lib.Seq.{drop-cons, take-suc, take-suc-set, append-snoc}
 use borrow.Author.Tests.{le-leb, eq-eqb, leb-true, eqb-true}
-use Rattle.cases.specs.Form.{numberAt, elements, lost, fits, Took, columnAt, same, Compare, against, Number, Found}
+use Rattle.columns.specs.Form.{numberAt, elements, lost, fits, Took, columnAt, Number, Found}
 
 -- The number in no bytes.
 pub number-none : (bytes : List ℕ) (at : ℕ) → Number bytes 0 at 0
@@ -81,32 +80,6 @@ module _ (body : List ℕ) (w most at : ℕ) where
     few = few;
     is = rw (fits-true (record { head = omega arith; width = width; inside = rw (← e) inside; few = omega arith }), ← e);
   }
-
--- A list is the same as itself.
-pub same-refl : (l : List ℕ) → same l l ≡ true
-unfolding same
-same-refl [] = refl
-same-refl (x ∷ l) = rw (eq-eqb x x refl, same-refl l)
-
--- Lists that are the same are equal.
-pub same-true : (l m : List ℕ) → same l m ≡ true → l ≡ m
-unfolding same
-same-true [] [] e = refl
-same-true [] (y ∷ m) e = absurd (false≢true e)
-same-true (x ∷ l) [] e = absurd (false≢true e)
-same-true (x ∷ l) (y ∷ m) e = go (eqb x y) refl e (λ d. same-true l m d)
-  where
-    go : (t : Bool) → eqb x y ≡ t → (t && same l m) ≡ true → (same l m ≡ true → l ≡ m) → x ∷ l ≡ y ∷ m
-    go true h e rest = ap₂ (λ (a : ℕ) (r : List ℕ). a ∷ r) (eqb-true x y h) (rest e)
-    go false h e rest = absurd (false≢true e)
-
--- Lists that are not equal are not the same.
-pub same-false : (l m : List ℕ) → (l ≡ m → ⊥) → same l m ≡ false
-same-false l m off = go (same l m) refl
-  where
-    go : (t : Bool) → same l m ≡ t → t ≡ false
-    go true e = absurd (off (same-true l m e))
-    go false e = refl
 
 -- The elements are as many as are asked for.
 pub length-elements : (body : List ℕ) (w from n : ℕ) → length (elements body w from n) ≡ n
@@ -178,33 +151,6 @@ module _ (body : List ℕ) (w n from : ℕ) where
   -- And it is as long as it must be.
   pub passed-length : (l : List ℕ) (k i : ℕ) → n ≤ i → Passed body w n from l k i → n ≡ length (take n l)
   passed-length l k i h p = sym (length-elements body w from n) ∙ ap length (passed-all l k i h p)
-
-  -- All are compared: the column is l.
-  pub passed-same : (l : List ℕ) (k i : ℕ) → n ≡ length l → n ≤ i
-      → Passed body w n from l k i → same (elements body w from n) l ≡ true
-  passed-same l k i e h p = rw (passed-all l k i h p, e, take-length) (same-refl l)
-
-  -- The next is another than that of l.
-  pub passed-off : (l : List ℕ) (k i x : ℕ) → i < n → i < length l → Number body w k x → (x ≡ getD l i 0 → ⊥)
-      → Passed body w n from l k i → same (elements body w from n) l ≡ false
-  unfolding elements
-  passed-off l k i x h b e off p = go (p .left) (p .counted) (p .so)
-    where
-      go : (left : ℕ) → n ≡ i + left → elements body w from n ≡ take i l ++ elements body w k left
-          → same (elements body w from n) l ≡ false
-      go zero c s = absurd (omega arith)
-      go (suc r) c s =
-          same-false _ _
-          (λ q. off (e .is ∙ sym (getD-at (take i l) _ _ 0 i (length-take-le i l (omega arith))) ∙ ap (λ (z : List ℕ). getD z i 0) (sym s ∙ q)))
-
--- What was found, held against a list.
-pub found-compared : {body : List ℕ} {w most at from n next : ℕ} {t : Bool} (l : List ℕ) → Found body w most at from n next
-    → same (elements body w from n) l ≡ t → Compare t next ≡ against l (columnAt body w most at)
-found-compared l f e = rw (← (f .is), e)
-
--- Lists of other lengths are not the same.
-pub same-count : (l m : List ℕ) → (length l ≡ length m → ⊥) → same l m ≡ false
-same-count l m off = same-false l m (λ e. off (ap length e))
 
 -- One byte is its number.
 byte-is : (bytes : List ℕ) (at : ℕ) → numberAt bytes 1 at ≡ getD bytes at 0

@@ -1,13 +1,13 @@
--- `cases::take_u16` meets its contract: the first `i` elements stand in `out`, the others lie from `k` on.
+-- `columns::take_u16` meets its contract: the first `i` elements stand in `out`, the others lie from `k` on.
 -- Assumes nothing.
 use Prim.Native.Nat.{_-_}
 use mathlib.Core.Path.{_≡_, refl}
 use native.Mathlib.Omega.{arith}
 use borrow.Author.Needs.{needs}
 use lib.ListN.{length, length-set}
-use Rattle.cases.proofs.FormLaws.{Passed, passed-none, passed-inside, passed-stored, passed-taken, passed-length}
-use Rattle.cases.proofs.take_u16.Statement.{statement}
-use Rattle.cases.proofs.take_u16.Tie as tie
+use Rattle.columns.proofs.FormLaws.{Passed, passed-none, passed-inside, passed-stored, passed-taken, passed-length}
+use Rattle.columns.proofs.take_u16.Statement.{statement}
+use Rattle.columns.proofs.take_u16.Tie as tie
 
 abbrev Inv-loop : tie.InvT-loop
 Inv-loop body at out₀ count k₀ i₀ out k i = (length out ≡ length out₀) × Passed body 2 count k₀ out k i

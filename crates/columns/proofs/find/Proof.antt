@@ -1,10 +1,10 @@
--- `cases::find` meets its contract: each test that fails is one of the four of `fits`, and where none fails the column is whole.
+-- `columns::find` meets its contract: each test that fails is one of the four of `fits`, and where none fails the column is whole.
 -- Assumes nothing.
 use borrow.Author.Needs.{needs}
 use native.Mathlib.Omega.{arith}
-use Rattle.cases.proofs.FormLaws.{number-times, found-none, found-whole}
-use Rattle.cases.proofs.find.Statement.{statement}
-use Rattle.cases.proofs.find.Tie as tie
+use Rattle.columns.proofs.FormLaws.{number-times, found-none, found-whole}
+use Rattle.columns.proofs.find.Statement.{statement}
+use Rattle.columns.proofs.find.Tie as tie
 
 left-requires : tie.Need-left-requires
 left-requires c κs = search needs

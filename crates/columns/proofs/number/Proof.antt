@@ -1,13 +1,13 @@
--- `cases::number` meets its contract: after `i` bytes `n` is the number in them.
+-- `columns::number` meets its contract: after `i` bytes `n` is the number in them.
 -- Assumes nothing.
 use Prim.Native.Nat.{_-_, _≤_, _<_}
 use native.Mathlib.Omega.{arith}
 use borrow.Author.Needs.{needs}
 use mathlib.Core.Path.{_≡_}
-use Rattle.cases.specs.Form.{Number}
-use Rattle.cases.proofs.FormLaws.{number-none, number-more, number-small}
-use Rattle.cases.proofs.number.Statement.{statement}
-use Rattle.cases.proofs.number.Tie as tie
+use Rattle.columns.specs.Form.{Number}
+use Rattle.columns.proofs.FormLaws.{number-none, number-more, number-small}
+use Rattle.columns.proofs.number.Statement.{statement}
+use Rattle.columns.proofs.number.Tie as tie
 
 abbrev Inv-loop : tie.InvT-loop
 Inv-loop bytes at width n₀ i₀ n i = (i ≤ width) × Number bytes i at n

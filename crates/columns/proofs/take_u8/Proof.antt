@@ -1,16 +1,16 @@
--- `cases::take_u32` meets its contract: the first `i` elements stand in `out`, the others lie from `k` on.
+-- `columns::take_u8` meets its contract: the first `i` elements stand in `out`, the others lie from `k` on.
 -- Assumes nothing.
 use Prim.Native.Nat.{_-_}
 use mathlib.Core.Path.{_≡_, refl}
 use native.Mathlib.Omega.{arith}
 use borrow.Author.Needs.{needs}
 use lib.ListN.{length, length-set}
-use Rattle.cases.proofs.FormLaws.{Passed, passed-none, passed-inside, passed-stored, passed-taken, passed-length}
-use Rattle.cases.proofs.take_u32.Statement.{statement}
-use Rattle.cases.proofs.take_u32.Tie as tie
+use Rattle.columns.proofs.FormLaws.{Passed, passed-none, passed-inside, passed-stored, passed-taken, passed-length}
+use Rattle.columns.proofs.take_u8.Statement.{statement}
+use Rattle.columns.proofs.take_u8.Tie as tie
 
 abbrev Inv-loop : tie.InvT-loop
-Inv-loop body at out₀ count k₀ i₀ out k i = (length out ≡ length out₀) × Passed body 4 count k₀ out k i
+Inv-loop body at out₀ count k₀ i₀ out k i = (length out ≡ length out₀) × Passed body 1 count k₀ out k i
 
 abbrev μ-loop : tie.MeasureT-loop
 μ-loop body at out₀ count k₀ i₀ out k i = count - i
@@ -26,9 +26,6 @@ number-requires c κs = (passed-inside _ _ _ _ (c .loop-test .taken) (c .before 
 
 cast-out : tie.Need-cast-out Inv-loop μ-loop
 cast-out c = omega (arith, c .number .ensures .below)
-
-mul-out : tie.Need-mul-out Inv-loop μ-loop
-mul-out c = search needs
 
 slice-write-out : tie.Need-slice-write-out Inv-loop μ-loop
 slice-write-out c = search needs
@@ -55,8 +52,8 @@ returns c =
     let l = c .before .before in
     passed-taken _ _ _ _ _ _ _ (l .before .find .ensures) (c .before .loop-test .left) (l .loop .inv .1)
 
-pub take-u32-spec : {M : Type 1} → statement M
-take-u32-spec =
+pub take-u8-spec : {M : Type 1} → statement M
+take-u8-spec =
     tie.close
     (tie.spec
     Inv-loop
@@ -65,7 +62,6 @@ take-u32-spec =
     loop-holds
     number-requires
     cast-out
-    mul-out
     slice-write-out
     add-k
     add-i

@@ -7,7 +7,7 @@ use libc::STDOUT_FILENO;
 ghost use mathlib.Core.Path.{_≡_};
 ghost use mathlib.Core.Bool.{true, _&&_};
 ghost use lib.Dec.{ltb};
-ghost use lib.ListN.{length, take};
+ghost use lib.ListN.{length, take, getD};
 ghost use Rattle.replays.specs.Reading.{within, flag, yes};
 ghost use Rattle.replays.specs.Verdicts.{stopped, judged, isCase, isOff, up, counted, goesOn};
 
@@ -110,6 +110,34 @@ pub fn is_set(column: &[u8]) -> bool
         return false;
     }
     column[0] == 1
+}
+
+// The first element of a column, or 0 if there is none: a single number is a column of one element.
+pub fn first_u8(column: &[u8]) -> u8
+    ensures { λ r. ⌜ r ≡ getD (now (column .entry)) 0 0 ⌝ }
+{
+    if column.len() == 0 {
+        return 0;
+    }
+    column[0]
+}
+
+pub fn first_u16(column: &[u16]) -> u16
+    ensures { λ r. ⌜ r ≡ getD (now (column .entry)) 0 0 ⌝ }
+{
+    if column.len() == 0 {
+        return 0;
+    }
+    column[0]
+}
+
+pub fn first_u32(column: &[u32]) -> u32
+    ensures { λ r. ⌜ r ≡ getD (now (column .entry)) 0 0 ⌝ }
+{
+    if column.len() == 0 {
+        return 0;
+    }
+    column[0]
 }
 
 // Two findings as one, so that a program that has several stays one path.

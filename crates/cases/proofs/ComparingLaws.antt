@@ -39,17 +39,17 @@ same-false l m off = go (same l m) refl
     go true e = absurd (off (same-true l m e))
     go false e = refl
 
-module _ (body : List ℕ) (w n from : ℕ) where
+module _ {body : List ℕ} {w n from : ℕ} where
   -- All are compared: the column is l.
-  pub passed-same : (l : List ℕ) (k i : ℕ) → n ≡ length l → n ≤ i
+  pub passed-same : {l : List ℕ} {k i : ℕ} → n ≡ length l → n ≤ i
       → Passed body w n from l k i → same (elements body w from n) l ≡ true
-  passed-same l k i e h p = rw (passed-all body w n from l k i h p, e, take-length) (same-refl l)
+  passed-same {l} e h p = rw (passed-all h p, e, take-length) (same-refl l)
 
   -- The next is another than that of l.
-  pub passed-off : (l : List ℕ) (k i x : ℕ) → i < n → i < length l → Number body w k x → (x ≡ getD l i 0 → ⊥)
+  pub passed-off : {l : List ℕ} {k i x : ℕ} → i < n → i < length l → Number body w k x → (x ≡ getD l i 0 → ⊥)
       → Passed body w n from l k i → same (elements body w from n) l ≡ false
   unfolding elements
-  passed-off l k i x h b e off p = go (p .left) (p .counted) (p .so)
+  passed-off {l} {k} {i} h b e off p = go (p .left) (p .counted) (p .so)
     where
       go : (left : ℕ) → n ≡ i + left → elements body w from n ≡ take i l ++ elements body w k left
           → same (elements body w from n) l ≡ false

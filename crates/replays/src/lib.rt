@@ -231,14 +231,36 @@ pub fn counted(t: Tally, what: Outcome) -> Tally
     }
 }
 
+// Writes a number, and what stands before and behind it.
+fn say(before: &[u8], n: u64, behind: &[u8]) {
+    io::write_all(STDOUT_FILENO, before);
+    io::print_decimal(STDOUT_FILENO, n);
+    io::write_all(STDOUT_FILENO, behind);
+}
+
+// Each text is made in a function that does nothing but say it: a byte string is written out in every fact of its function.
+fn say_differs(k: u64) {
+    say(b"case ", k, b" differs\n");
+}
+
+fn say_unreadable(k: u64) {
+    say(b": unreadable at case ", k, b"\n");
+}
+
+fn say_cases(n: u64) {
+    say(b": ", n, b" cases");
+}
+
+fn say_differ(n: u64) {
+    say(b", ", n, b" differ\n");
+}
+
 // Counts a case, and says that it differs unless ten were told.
 pub fn tell(t: Tally, what: Outcome) -> Tally
     ensures { λ r. ⌜ r ≡ counted t what ⌝ }
 {
     if both(is_off(what), below(t.differ, 10)) {
-        io::write_all(STDOUT_FILENO, b"case ");
-        io::print_decimal(STDOUT_FILENO, t.cases);
-        io::write_all(STDOUT_FILENO, b" differs\n");
+        say_differs(t.cases);
     }
     counted(t, what)
 }
@@ -247,14 +269,9 @@ pub fn tell(t: Tally, what: Outcome) -> Tally
 pub fn finish(name: &[u8], t: Tally, what: Outcome) {
     io::write_all(STDOUT_FILENO, name);
     if let Outcome::Unreadable = what {
-        io::write_all(STDOUT_FILENO, b": unreadable at case ");
-        io::print_decimal(STDOUT_FILENO, t.cases);
-        io::write_all(STDOUT_FILENO, b"\n");
+        say_unreadable(t.cases);
         return;
     }
-    io::write_all(STDOUT_FILENO, b": ");
-    io::print_decimal(STDOUT_FILENO, t.cases);
-    io::write_all(STDOUT_FILENO, b" cases, ");
-    io::print_decimal(STDOUT_FILENO, t.differ);
-    io::write_all(STDOUT_FILENO, b" differ\n");
+    say_cases(t.cases);
+    say_differ(t.differ);
 }

@@ -19,10 +19,10 @@ find-requires : tie.Need-find-requires Inv-loop μ-loop
 find-requires c κs = omega arith
 
 loop-holds : tie.Need-loop-holds Inv-loop μ-loop
-loop-holds c = (refl, passed-none _ _ _ _ _ (c .find .ensures .inside))
+loop-holds c = (refl, passed-none (c .find .ensures .inside))
 
 number-requires : tie.Need-number-requires Inv-loop μ-loop
-number-requires c κs = (passed-inside _ _ _ _ (c .loop-test .taken) (c .before .loop .inv .1), omega arith)
+number-requires c κs = (passed-inside (c .loop-test .taken) (c .before .loop .inv .1), omega arith)
 
 cast-out : tie.Need-cast-out Inv-loop μ-loop
 cast-out c = omega (arith, c .number .ensures .below)
@@ -45,15 +45,15 @@ loop-less c = search needs
 loop-again : tie.Need-loop-again Inv-loop μ-loop
 loop-again c =
     let p = c .before .before .loop .inv in
-    (simp length-set (p .0), passed-stored _ _ _ _ _ _ _ _ (c .before .loop-test .taken) (omega arith) (c .number .ensures) (p .1))
+    (simp length-set (p .0), passed-stored (c .before .loop-test .taken) (omega arith) (c .number .ensures) (p .1))
 
 slice-aggregate-result : tie.Need-slice-aggregate-result Inv-loop μ-loop
-slice-aggregate-result c = passed-length _ _ _ _ _ _ _ (c .before .loop-test .left) (c .before .before .loop .inv .1)
+slice-aggregate-result c = passed-length (c .before .loop-test .left) (c .before .before .loop .inv .1)
 
 returns : tie.Need-returns Inv-loop μ-loop
 returns c =
     let l = c .before .before in
-    passed-taken _ _ _ _ _ _ _ (l .before .find .ensures) (c .before .loop-test .left) (l .loop .inv .1)
+    passed-taken (l .before .find .ensures) (c .before .loop-test .left) (l .loop .inv .1)
 
 pub take-u32-spec : {M : Type 1} → statement M
 take-u32-spec =

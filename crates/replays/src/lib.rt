@@ -6,7 +6,6 @@ use libc::STDIN_FILENO;
 use libc::STDOUT_FILENO;
 ghost use mathlib.Core.Path.{_≡_};
 ghost use mathlib.Core.Bool.{true, _&&_};
-ghost use lib.Dec.{ltb};
 ghost use lib.ListN.{length, take, getD};
 ghost use Rattle.replays.specs.Reading.{within, flag, yes};
 ghost use Rattle.replays.specs.Verdicts.{stopped, judged, isCase, isOff, up, counted, goesOn};
@@ -195,17 +194,11 @@ fn is_off(what: Outcome) -> bool
     }
 }
 
-fn below(n: u64, limit: u64) -> bool
-    ensures { λ r. ⌜ r ≡ ltb n limit ⌝ }
-{
-    n < limit
-}
-
 // Whether this is a case that can be counted. A loop that asks it ends: the tally grows with each case.
 pub fn goes_on(t: Tally, what: Outcome) -> bool
     ensures { λ r. ⌜ r ≡ goesOn t what ⌝ }
 {
-    both(is_case(what), below(t.cases, 18446744073709551615))
+    both(is_case(what), t.cases < 18446744073709551615)
 }
 
 // One more, if asked for.
@@ -259,7 +252,7 @@ fn say_differ(n: u64) {
 pub fn tell(t: Tally, what: Outcome) -> Tally
     ensures { λ r. ⌜ r ≡ counted t what ⌝ }
 {
-    if both(is_off(what), below(t.differ, 10)) {
+    if both(is_off(what), t.differ < 10) {
         say_differs(t.cases);
     }
     counted(t, what)

@@ -1,4 +1,4 @@
--- The laws that the proofs of `cases` share, and the form's examples.
+-- The laws that the proofs of `cases` share, and examples of comparing.
 -- Assumes nothing.
-pub mod FormLaws
-pub mod FormExamples
+pub mod ComparingExamples
+pub mod ComparingLaws

@@ -1,3 +1,3 @@
 -- The definitions that the contracts of `cases` cite.
 -- Assumes nothing.
-pub mod Form
+pub mod Comparing

@@ -6,8 +6,7 @@ use libc::STDIN_FILENO;
 use libc::STDOUT_FILENO;
 ghost use mathlib.Core.Path.{_≡_};
 ghost use mathlib.Core.Bool.{true, _&&_};
-ghost use lib.Dec.{ltb};
-ghost use lib.ListN.{length, take};
+ghost use lib.ListN.{length, take, getD};
 ghost use Rattle.replays.specs.Reading.{within, flag, yes};
 ghost use Rattle.replays.specs.Verdicts.{stopped, judged, isCase, isOff, up, counted, goesOn};
 
@@ -112,6 +111,34 @@ pub fn is_set(column: &[u8]) -> bool
     column[0] == 1
 }
 
+// The first element of a column, or 0 if there is none: a single number is a column of one element.
+pub fn first_u8(column: &[u8]) -> u8
+    ensures { λ r. ⌜ r ≡ getD (now (column .entry)) 0 0 ⌝ }
+{
+    if column.len() == 0 {
+        return 0;
+    }
+    column[0]
+}
+
+pub fn first_u16(column: &[u16]) -> u16
+    ensures { λ r. ⌜ r ≡ getD (now (column .entry)) 0 0 ⌝ }
+{
+    if column.len() == 0 {
+        return 0;
+    }
+    column[0]
+}
+
+pub fn first_u32(column: &[u32]) -> u32
+    ensures { λ r. ⌜ r ≡ getD (now (column .entry)) 0 0 ⌝ }
+{
+    if column.len() == 0 {
+        return 0;
+    }
+    column[0]
+}
+
 // Two findings as one, so that a program that has several stays one path.
 pub fn both(a: bool, b: bool) -> bool
     ensures { λ r. ⌜ r ≡ (a && b) ⌝ }
@@ -167,17 +194,11 @@ fn is_off(what: Outcome) -> bool
     }
 }
 
-fn below(n: u64, limit: u64) -> bool
-    ensures { λ r. ⌜ r ≡ ltb n limit ⌝ }
-{
-    n < limit
-}
-
 // Whether this is a case that can be counted. A loop that asks it ends: the tally grows with each case.
 pub fn goes_on(t: Tally, what: Outcome) -> bool
     ensures { λ r. ⌜ r ≡ goesOn t what ⌝ }
 {
-    both(is_case(what), below(t.cases, 18446744073709551615))
+    both(is_case(what), t.cases < 18446744073709551615)
 }
 
 // One more, if asked for.
@@ -203,14 +224,36 @@ pub fn counted(t: Tally, what: Outcome) -> Tally
     }
 }
 
+// Writes a number, and what stands before and behind it.
+fn say(before: &[u8], n: u64, behind: &[u8]) {
+    io::write_all(STDOUT_FILENO, before);
+    io::print_decimal(STDOUT_FILENO, n);
+    io::write_all(STDOUT_FILENO, behind);
+}
+
+// Each text is made in a function that does nothing but say it: a byte string is written out in every fact of its function.
+fn say_differs(k: u64) {
+    say(b"case ", k, b" differs\n");
+}
+
+fn say_unreadable(k: u64) {
+    say(b": unreadable at case ", k, b"\n");
+}
+
+fn say_cases(n: u64) {
+    say(b": ", n, b" cases");
+}
+
+fn say_differ(n: u64) {
+    say(b", ", n, b" differ\n");
+}
+
 // Counts a case, and says that it differs unless ten were told.
 pub fn tell(t: Tally, what: Outcome) -> Tally
     ensures { λ r. ⌜ r ≡ counted t what ⌝ }
 {
-    if both(is_off(what), below(t.differ, 10)) {
-        io::write_all(STDOUT_FILENO, b"case ");
-        io::print_decimal(STDOUT_FILENO, t.cases);
-        io::write_all(STDOUT_FILENO, b" differs\n");
+    if both(is_off(what), t.differ < 10) {
+        say_differs(t.cases);
     }
     counted(t, what)
 }
@@ -219,14 +262,9 @@ pub fn tell(t: Tally, what: Outcome) -> Tally
 pub fn finish(name: &[u8], t: Tally, what: Outcome) {
     io::write_all(STDOUT_FILENO, name);
     if let Outcome::Unreadable = what {
-        io::write_all(STDOUT_FILENO, b": unreadable at case ");
-        io::print_decimal(STDOUT_FILENO, t.cases);
-        io::write_all(STDOUT_FILENO, b"\n");
+        say_unreadable(t.cases);
         return;
     }
-    io::write_all(STDOUT_FILENO, b": ");
-    io::print_decimal(STDOUT_FILENO, t.cases);
-    io::write_all(STDOUT_FILENO, b" cases, ");
-    io::print_decimal(STDOUT_FILENO, t.differ);
-    io::write_all(STDOUT_FILENO, b" differ\n");
+    say_cases(t.cases);
+    say_differ(t.differ);
 }

@@ -1,11 +1,10 @@
 -- `cases::same_u32` meets its contract: the first `i` elements are those of `got`, the others lie from `k` on.
 -- Assumes nothing.
 use Prim.Native.Nat.{_-_}
-use mathlib.Core.Path.{_≡_, refl}
 use native.Mathlib.Omega.{arith}
 use borrow.Author.Needs.{needs}
-use lib.ListN.{length}
-use Rattle.cases.proofs.FormLaws.{Passed, passed-none, passed-inside, passed-equal, passed-same, passed-off, found-compared, same-count, length-elements}
+use Rattle.columns.proofs.FormLaws.{Passed, passed-none, passed-inside, passed-equal, length-elements}
+use Rattle.cases.proofs.ComparingLaws.{same-count, passed-same, passed-off, found-compared}
 use Rattle.cases.proofs.same_u32.Statement.{statement}
 use Rattle.cases.proofs.same_u32.Tie as tie
 
@@ -22,10 +21,10 @@ returns : tie.Need-returns Inv-loop μ-loop
 returns c = found-compared _ (c .before .find .ensures) (same-count _ _ (rw length-elements (c .if1 .taken)))
 
 loop-holds : tie.Need-loop-holds Inv-loop μ-loop
-loop-holds c = passed-none _ _ _ _ _ (c .before .find .ensures .inside)
+loop-holds c = passed-none (c .before .find .ensures .inside)
 
 number-requires : tie.Need-number-requires Inv-loop μ-loop
-number-requires c κs = (passed-inside _ _ _ _ (c .loop-test .taken) (c .before .loop .inv), omega arith)
+number-requires c κs = (passed-inside (c .loop-test .taken) (c .before .loop .inv), omega arith)
 
 cast-if2 : tie.Need-cast-if2 Inv-loop μ-loop
 cast-if2 c = omega (arith, c .number .ensures .below)
@@ -41,7 +40,7 @@ returns-2 c =
     let n = c .before .before in
     let l = n .before .before in
     found-compared _ (l .before .before .find .ensures)
-    (passed-off _ _ _ _ _ _ _ _ (n .before .loop-test .taken) (omega arith) (n .number .ensures) (c .if2 .taken) (l .loop .inv))
+    (passed-off (n .before .loop-test .taken) (omega arith) (n .number .ensures) (c .if2 .taken) (l .loop .inv))
 
 add-k : tie.Need-add-k Inv-loop μ-loop
 add-k c = search needs
@@ -56,13 +55,13 @@ loop-again : tie.Need-loop-again Inv-loop μ-loop
 loop-again c =
     let n = c .before .before in
     let l = n .before .before in
-    passed-equal _ _ _ _ _ _ _ _ (n .before .loop-test .taken) (omega arith) (n .number .ensures) (c .if2 .left) (l .loop .inv)
+    passed-equal (n .before .loop-test .taken) (omega arith) (n .number .ensures) (c .if2 .left) (l .loop .inv)
 
 returns-3 : tie.Need-returns-3 Inv-loop μ-loop
 returns-3 c =
     let l = c .before in
     found-compared _ (l .before .before .find .ensures)
-    (passed-same _ _ _ _ _ _ _ (l .before .if1 .left) (c .loop-test .left) (l .loop .inv))
+    (passed-same (l .before .if1 .left) (c .loop-test .left) (l .loop .inv))
 
 pub same-u32-spec : {M : Type 1} → statement M
 same-u32-spec =

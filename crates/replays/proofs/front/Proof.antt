@@ -4,7 +4,6 @@ use native.Mathlib.Nat.{le-of-lt}
 use mathlib.Core.Path.{sym}
 use native.Mathlib.Nat.{sub-zero}
 use lib.Seq.{take-all}
-use native.Mathlib.Omega.{arith}
 use borrow.Author.Needs.{needs}
 use Rattle.replays.proofs.front.Statement.{statement}
 use Rattle.replays.proofs.front.Tie as tie

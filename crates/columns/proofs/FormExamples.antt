@@ -1,10 +1,9 @@
 -- The form on bodies that are small enough to read.
 -- Assumes nothing.
-use mathlib.Core.Bool.{true, false}
 use mathlib.Core.List.{List, [], _∷_}
 use mathlib.Core.Path.{_≡_, refl}
 use Prim.Native.Nat.{ℕ}
-use Rattle.cases.specs.Form.{numberAt, elements, lost, fits, Took, columnAt, same, Compare, comparedAt}
+use Rattle.columns.specs.Form.{numberAt, elements, lost, fits, Took, columnAt}
 
 -- Two numbers of two bytes, 258 and 772, and a column of no bytes behind them.
 body : List ℕ
@@ -33,11 +32,3 @@ cut-short = refl
 at-the-end : columnAt body 1 9 14 ≡ Took [] lost
 unfolding body numberAt elements fits columnAt
 at-the-end = refl
-
-agrees : comparedAt body 2 (258 ∷ 772 ∷ []) 0 ≡ Compare true 9
-unfolding body numberAt elements fits columnAt same
-agrees = refl
-
-one-fewer : comparedAt body 2 (258 ∷ []) 0 ≡ Compare false 9
-unfolding body numberAt elements fits columnAt same
-one-fewer = refl

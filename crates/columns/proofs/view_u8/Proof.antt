@@ -1,10 +1,10 @@
--- `cases::view_u8` meets its contract: the bytes of a body are its elements of width 1.
+-- `columns::view_u8` meets its contract: the bytes of a body are its elements of width 1.
 -- Assumes nothing.
 use borrow.Author.Needs.{needs}
 use native.Mathlib.Omega.{arith}
-use Rattle.cases.proofs.FormLaws.{bytes-are}
-use Rattle.cases.proofs.view_u8.Statement.{statement}
-use Rattle.cases.proofs.view_u8.Tie as tie
+use Rattle.columns.proofs.FormLaws.{bytes-are}
+use Rattle.columns.proofs.view_u8.Statement.{statement}
+use Rattle.columns.proofs.view_u8.Tie as tie
 
 find-requires : tie.Need-find-requires
 find-requires c κs = search needs

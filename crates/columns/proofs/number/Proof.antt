@@ -1,13 +1,13 @@
--- `cases::number` meets its contract: after `i` bytes `n` is the number in them.
+-- `columns::number` meets its contract: after `i` bytes `n` is the number in them.
 -- Assumes nothing.
-use Prim.Native.Nat.{_-_, _≤_, _<_}
+use Prim.Native.Nat.{_-_, _≤_}
 use native.Mathlib.Omega.{arith}
 use borrow.Author.Needs.{needs}
 use mathlib.Core.Path.{_≡_}
-use Rattle.cases.specs.Form.{Number}
-use Rattle.cases.proofs.FormLaws.{number-none, number-more, number-small}
-use Rattle.cases.proofs.number.Statement.{statement}
-use Rattle.cases.proofs.number.Tie as tie
+use Rattle.columns.specs.Form.{Number}
+use Rattle.columns.proofs.FormLaws.{number-none, number-more, number-small}
+use Rattle.columns.proofs.number.Statement.{statement}
+use Rattle.columns.proofs.number.Tie as tie
 
 abbrev Inv-loop : tie.InvT-loop
 Inv-loop bytes at width n₀ i₀ n i = (i ≤ width) × Number bytes i at n
@@ -16,10 +16,10 @@ abbrev μ-loop : tie.MeasureT-loop
 μ-loop bytes at width n₀ i₀ n i = width - i
 
 loop-holds : tie.Need-loop-holds Inv-loop μ-loop
-loop-holds c = (omega arith, number-none _ _)
+loop-holds c = (omega arith, number-none)
 
 mul-n : tie.Need-mul-n Inv-loop μ-loop
-mul-n c = omega (arith, number-small _ _ _ _ (omega arith) (c .before .loop .inv .1))
+mul-n c = omega (arith, number-small (omega arith) (c .before .loop .inv .1))
 
 add-wide : tie.Need-add-wide Inv-loop μ-loop
 add-wide c = omega arith
@@ -31,7 +31,7 @@ wide-requires : tie.Need-wide-requires Inv-loop μ-loop
 wide-requires c κs = search needs
 
 add-n : tie.Need-add-n Inv-loop μ-loop
-add-n c = omega (arith, number-small _ _ _ _ (omega arith) (c .before .before .before .loop .inv .1))
+add-n c = omega (arith, number-small (omega arith) (c .before .before .before .loop .inv .1))
 
 add-i : tie.Need-add-i Inv-loop μ-loop
 add-i c = omega arith
@@ -41,7 +41,7 @@ loop-less c = omega arith
 
 loop-again : tie.Need-loop-again Inv-loop μ-loop
 loop-again c =
-    (omega arith, number-more _ _ _ _ _ (c .before .before .before .loop .inv .1) (c .wide .ensures .0) (c .wide .ensures .1))
+    (omega arith, number-more (c .before .before .before .loop .inv .1) (c .wide .ensures .0) (c .wide .ensures .1))
 
 returns : tie.Need-returns Inv-loop μ-loop
 returns c =

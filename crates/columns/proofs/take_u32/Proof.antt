@@ -1,13 +1,13 @@
--- `cases::take_u32` meets its contract: the first `i` elements stand in `out`, the others lie from `k` on.
+-- `columns::take_u32` meets its contract: the first `i` elements stand in `out`, the others lie from `k` on.
 -- Assumes nothing.
 use Prim.Native.Nat.{_-_}
 use mathlib.Core.Path.{_≡_, refl}
 use native.Mathlib.Omega.{arith}
 use borrow.Author.Needs.{needs}
 use lib.ListN.{length, length-set}
-use Rattle.cases.proofs.FormLaws.{Passed, passed-none, passed-inside, passed-stored, passed-taken}
-use Rattle.cases.proofs.take_u32.Statement.{statement}
-use Rattle.cases.proofs.take_u32.Tie as tie
+use Rattle.columns.proofs.FormLaws.{Passed, passed-none, passed-inside, passed-stored, passed-taken, passed-length}
+use Rattle.columns.proofs.take_u32.Statement.{statement}
+use Rattle.columns.proofs.take_u32.Tie as tie
 
 abbrev Inv-loop : tie.InvT-loop
 Inv-loop body at out₀ count k₀ i₀ out k i = (length out ≡ length out₀) × Passed body 4 count k₀ out k i
@@ -19,10 +19,10 @@ find-requires : tie.Need-find-requires Inv-loop μ-loop
 find-requires c κs = omega arith
 
 loop-holds : tie.Need-loop-holds Inv-loop μ-loop
-loop-holds c = (refl, passed-none _ _ _ _ _ (c .find .ensures .inside))
+loop-holds c = (refl, passed-none (c .find .ensures .inside))
 
 number-requires : tie.Need-number-requires Inv-loop μ-loop
-number-requires c κs = (passed-inside _ _ _ _ (c .loop-test .taken) (c .before .loop .inv .1), omega arith)
+number-requires c κs = (passed-inside (c .loop-test .taken) (c .before .loop .inv .1), omega arith)
 
 cast-out : tie.Need-cast-out Inv-loop μ-loop
 cast-out c = omega (arith, c .number .ensures .below)
@@ -45,24 +45,15 @@ loop-less c = search needs
 loop-again : tie.Need-loop-again Inv-loop μ-loop
 loop-again c =
     let p = c .before .before .loop .inv in
-    (simp length-set (p .0), passed-stored _ _ _ _ _ _ _ _ (c .before .loop-test .taken) (omega arith) (c .number .ensures) (p .1))
+    (simp length-set (p .0), passed-stored (c .before .loop-test .taken) (omega arith) (c .number .ensures) (p .1))
 
-mul-out-2 : tie.Need-mul-out-2 Inv-loop μ-loop
-mul-out-2 c = search needs
-
-sub-result : tie.Need-sub-result Inv-loop μ-loop
-sub-result c = search needs
-
-part-out-start : tie.Need-part-out-start Inv-loop μ-loop
-part-out-start c = search needs
-
-part-out-end : tie.Need-part-out-end Inv-loop μ-loop
-part-out-end c = search needs
+slice-aggregate-result : tie.Need-slice-aggregate-result Inv-loop μ-loop
+slice-aggregate-result c = passed-length (c .before .loop-test .left) (c .before .before .loop .inv .1)
 
 returns : tie.Need-returns Inv-loop μ-loop
 returns c =
-    let a = c .before .before in
-    passed-taken _ _ _ _ _ _ _ _ _ _ (a .before .find .ensures) (c .before .loop-test .left) (a .loop .inv .1)
+    let l = c .before .before in
+    passed-taken (l .before .find .ensures) (c .before .loop-test .left) (l .loop .inv .1)
 
 pub take-u32-spec : {M : Type 1} → statement M
 take-u32-spec =
@@ -80,8 +71,5 @@ take-u32-spec =
     add-i
     loop-less
     loop-again
-    mul-out-2
-    sub-result
-    part-out-start
-    part-out-end
+    slice-aggregate-result
     returns)

@@ -5,15 +5,11 @@
 --   fits        whether the column that is asked for stands at the cursor
 --   Taken       the elements of a column, and the cursor behind it
 --   columnAt    what is taken at a cursor
---   same        whether two lists are the same
---   Compared    whether a column is what was got, and the cursor behind it
---   against     what was taken, held against what was got
---   comparedAt  what comparing at a cursor gives
 --   Number      what reading one number promises
 --   Found       what looking for a column promises
 -- Assumes nothing.
 use Prim.Native.Nat.{ℕ, zero, suc, _+_, _*_, _^_, _≤_, _<_}
-use mathlib.Core.Bool.{Bool, true, false, cond, _&&_}
+use mathlib.Core.Bool.{Bool, cond, _&&_}
 use mathlib.Core.List.{List, [], _∷_}
 use mathlib.Core.Path.{_≡_}
 use lib.Dec.{leb, eqb}
@@ -51,26 +47,6 @@ columnAt body w most at =
     cond (fits body w most at)
     (Took (elements body w (at + 5) (numberAt body 4 at)) (at + 5 + numberAt body 4 at * w))
     (Took [] lost)
-
--- Whether two lists are the same, in number and in each element.
-unfoldable pub same : List ℕ → List ℕ → Bool
-same [] [] = true
-same [] (y ∷ ys) = false
-same (x ∷ xs) [] = false
-same (x ∷ xs) (y ∷ ys) = eqb x y && same xs ys
-
--- Whether a column is what was got, and the cursor behind it.
-pub data Compared : Type 0 where
-  Compare : (agrees : Bool) → (next : ℕ) → Compared
-
--- What was taken, held against what was got.
-abbrev pub against : List ℕ → Taken → Compared
-against got (Took elements next) = Compare (same elements got) next
-
--- What comparing at a cursor gives: the column there may have any number of elements (a body has a byte at least for each), and
--- where the bytes are of another form it counts as empty.
-abbrev pub comparedAt : List ℕ → ℕ → List ℕ → ℕ → Compared
-comparedAt body w got at = against got (columnAt body w (length body) at)
 
 -- What reading one number promises: it is the number in w bytes from a place on, and no more than they can hold.
 pub record Number (bytes : List ℕ) (w at r : ℕ) : Type 0 where

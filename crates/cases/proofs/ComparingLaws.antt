@@ -1,0 +1,68 @@
+-- Laws on lists that are the same, and on columns that are compared, over the width.
+-- Assumes nothing.
+use Prim.Native.Nat.{ℕ, zero, suc, _+_, _≤_, _<_}
+use mathlib.Core.Bool.{Bool, true, false, _&&_, false≢true}
+use mathlib.Core.List.{List, [], _∷_, _++_}
+use mathlib.Core.Path.{_≡_, refl, sym, ap, ap₂, _∙_}
+use native.Mathlib.Omega.{arith}
+use lib.Dec.{eqb}
+use lib.ListN.{length, getD, take}
+use lib.Seq.{getD-at, length-take-le, take-length}
+use borrow.Author.Tests.{eq-eqb, eqb-true}
+use Rattle.columns.specs.Form.{elements, columnAt, Number, Found}
+use Rattle.columns.proofs.FormLaws.{Passed, passed-all}
+use Rattle.cases.specs.Comparing.{same, Compare, against}
+
+-- A list is the same as itself.
+pub same-refl : (l : List ℕ) → same l l ≡ true
+unfolding same
+same-refl [] = refl
+same-refl (x ∷ l) = rw (eq-eqb x x refl, same-refl l)
+
+-- Lists that are the same are equal.
+pub same-true : (l m : List ℕ) → same l m ≡ true → l ≡ m
+unfolding same
+same-true [] [] e = refl
+same-true [] (y ∷ m) e = absurd (false≢true e)
+same-true (x ∷ l) [] e = absurd (false≢true e)
+same-true (x ∷ l) (y ∷ m) e = go (eqb x y) refl e (λ d. same-true l m d)
+  where
+    go : (t : Bool) → eqb x y ≡ t → (t && same l m) ≡ true → (same l m ≡ true → l ≡ m) → x ∷ l ≡ y ∷ m
+    go true h e rest = ap₂ (λ (a : ℕ) (r : List ℕ). a ∷ r) (eqb-true x y h) (rest e)
+    go false h e rest = absurd (false≢true e)
+
+-- Lists that are not equal are not the same.
+pub same-false : (l m : List ℕ) → (l ≡ m → ⊥) → same l m ≡ false
+same-false l m off = go (same l m) refl
+  where
+    go : (t : Bool) → same l m ≡ t → t ≡ false
+    go true e = absurd (off (same-true l m e))
+    go false e = refl
+
+module _ {body : List ℕ} {w n from : ℕ} where
+  -- All are compared: the column is l.
+  pub passed-same : {l : List ℕ} {k i : ℕ} → n ≡ length l → n ≤ i
+      → Passed body w n from l k i → same (elements body w from n) l ≡ true
+  passed-same {l} e h p = rw (passed-all h p, e, take-length) (same-refl l)
+
+  -- The next is another than that of l.
+  pub passed-off : {l : List ℕ} {k i x : ℕ} → i < n → i < length l → Number body w k x → (x ≡ getD l i 0 → ⊥)
+      → Passed body w n from l k i → same (elements body w from n) l ≡ false
+  unfolding elements
+  passed-off {l} {k} {i} h b e off p = go (p .left) (p .counted) (p .so)
+    where
+      go : (left : ℕ) → n ≡ i + left → elements body w from n ≡ take i l ++ elements body w k left
+          → same (elements body w from n) l ≡ false
+      go zero c s = absurd (omega arith)
+      go (suc r) c s =
+          same-false _ _
+          (λ q. off (e .is ∙ sym (getD-at (take i l) _ _ 0 i (length-take-le i l (omega arith))) ∙ ap (λ (z : List ℕ). getD z i 0) (sym s ∙ q)))
+
+-- What was found, held against a list.
+pub found-compared : {body : List ℕ} {w most at from n next : ℕ} {t : Bool} (l : List ℕ) → Found body w most at from n next
+    → same (elements body w from n) l ≡ t → Compare t next ≡ against l (columnAt body w most at)
+found-compared l f e = rw (← (f .is), e)
+
+-- Lists of other lengths are not the same.
+pub same-count : (l m : List ℕ) → (length l ≡ length m → ⊥) → same l m ≡ false
+same-count l m off = same-false l m (λ e. off (ap length e))

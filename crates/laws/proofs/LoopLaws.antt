@@ -2,8 +2,8 @@
 -- A loop carries what is still to come: reading, `f l ≡ f (drop i l)`; filling, `whole ≡ take i out ++ rest`; testing by a
 -- flag, `test l ≡ (ok && test (drop i l))`.
 -- Assumes nothing.
-use mathlib.Core.Path.{_≡_, refl, sym, ap, _∙_}
-use mathlib.Core.Bool.{Bool, true, false, _&&_, and-true, and-false}
+use mathlib.Core.Path.{_≡_, sym, ap, _∙_}
+use mathlib.Core.Bool.{Bool, true, _&&_, and-true, and-assoc}
 use mathlib.Core.List.{List, [], _∷_, _++_, append-nil}
 use Prim.Native.Nat.{ℕ, _+_, _<_, _≤_}
 use native.Mathlib.Numerals.{add-one}
@@ -25,14 +25,10 @@ module _ {A : Type 0} where
 
 -- A flag that carries a test: `whole` is what the test says of the list, `rest` what it says of what is left.
 module _ (ok : Bool) {whole rest : Bool} (inv : whole ≡ (ok && rest)) where
-  -- the element at hand passes, and `next` is what the test says behind it
-  pub flag-stays : {next : Bool} → rest ≡ next → whole ≡ (ok && next)
-  flag-stays e = inv ∙ ap (λ (b : Bool). ok && b) e
-
-  -- the element at hand does not pass
-  pub flag-falls : rest ≡ false → whole ≡ false
-  flag-falls e = flag-stays e ∙ and-false ok
+  -- the element at hand is tested by t, and `next` is what the test says behind it
+  pub flag-next : (t next : Bool) → rest ≡ (t && next) → whole ≡ ((ok && t) && next)
+  flag-next t next e = inv ∙ ap (λ (b : Bool). ok && b) e ∙ sym (and-assoc ok t next)
 
   -- nothing is left
   pub flag-ends : rest ≡ true → ok ≡ whole
-  flag-ends e = sym (flag-stays e ∙ and-true ok)
+  flag-ends e = sym (inv ∙ ap (λ (b : Bool). ok && b) e ∙ and-true ok)

@@ -1,26 +1,20 @@
 -- Laws of the columns' tests: a turn of the loop that makes each, and what a passed test says of an element.
 -- Assumes nothing.
 use mathlib.Core.Path.{_≡_, refl, ap, _∙_}
-use mathlib.Core.Bool.{Bool, true, false, _&&_, and-eq-true-iff}
+use mathlib.Core.Bool.{true, _&&_, and-eq-true-iff}
 use mathlib.Core.List.{List, [], _∷_}
 use Prim.Native.Nat.{ℕ, zero, suc, _+_, _<_, _≤_, zero-le}
 use native.Mathlib.Omega.{arith}
 use native.Mathlib.Numerals.{add-one}
-use borrow.Author.Tests.{leb-true, le-leb, lt-leb}
-use lib.Dec.{leb}
+use borrow.Author.Tests.{leb-true}
+use lib.Dec.{leb, ltb}
 use lib.ListN.{length, getD, drop, length-drop}
 use Rattle.laws.proofs.LoopLaws.{drop-next}
 use Rattle.refusals.specs.Columns.{atMost, rising}
 
 -- ---- no element above a bound
-atMost-turn : (m : ℕ) (l : List ℕ) (i : ℕ) → i < length l → atMost m (drop i l) ≡ (leb (getD l i 0) m && atMost m (drop (i + 1) l))
+pub atMost-turn : (m : ℕ) (l : List ℕ) (i : ℕ) → i < length l → atMost m (drop i l) ≡ (leb (getD l i 0) m && atMost m (drop (i + 1) l))
 atMost-turn m l i h = ap (atMost m) (drop-next l i 0 h)
-
-pub atMost-passes : (m : ℕ) (l : List ℕ) (i : ℕ) → i < length l → getD l i 0 ≤ m → atMost m (drop i l) ≡ atMost m (drop (i + 1) l)
-atMost-passes m l i h p = atMost-turn m l i h ∙ simp (le-leb (getD l i 0) m p)
-
-pub atMost-fails : (m : ℕ) (l : List ℕ) (i : ℕ) → i < length l → m < getD l i 0 → atMost m (drop i l) ≡ false
-atMost-fails m l i h p = atMost-turn m l i h ∙ simp (lt-leb (getD l i 0) m p)
 
 -- each element, and the 0 past the end
 pub atMost-at : (m : ℕ) (l : List ℕ) → atMost m l ≡ true → (k : ℕ) → getD l k 0 ≤ m
@@ -36,14 +30,11 @@ rising-turn d l i h =
     let next = drop-next l (i + 1) 0 h in
     rw (drop-next l i 0 (omega arith), next)
 
-pub rising-passes :
-    (d : ℕ) (l : List ℕ) (i : ℕ) → i + 1 < length l → getD l i 0 + d ≤ getD l (i + 1) 0
-    → rising d (drop i l) ≡ rising d (drop (i + 1) l)
-rising-passes d l i h p = rising-turn d l i h ∙ simp (le-leb (getD l i 0 + d) (getD l (i + 1) 0) p)
-
-pub rising-fails :
-    (d : ℕ) (l : List ℕ) (i : ℕ) → i + 1 < length l → getD l (i + 1) 0 < getD l i 0 + d → rising d (drop i l) ≡ false
-rising-fails d l i h p = rising-turn d l i h ∙ simp (lt-leb (getD l i 0 + d) (getD l (i + 1) 0) p)
+-- the same with the test that code makes
+pub strictly-turn :
+    (l : List ℕ) (i : ℕ) → i + 1 < length l
+    → rising 1 (drop i l) ≡ (ltb (getD l i 0) (getD l (i + 1) 0) && rising 1 (drop (i + 1) l))
+strictly-turn l i h = rising-turn 1 l i h ∙ rw (add-one (getD l i 0))
 
 rising-short : (d : ℕ) (l : List ℕ) → length l ≤ 1 → rising d l ≡ true
 rising-short d [] h = refl

@@ -112,12 +112,8 @@ pub fn at_most(column: &[u8], most: u8) -> Verdict
     let mut ok = true;
     let mut i = 0;
     while i < column.len() {
-        if most < column[i] {
-            ok = false;
-            i += 1;
-        } else {
-            i += 1;
-        }
+        ok = ok & (column[i] <= most);
+        i += 1;
     }
     unless(ok, Refusal::OutOfRange)
 }
@@ -129,12 +125,8 @@ pub fn rising(column: &[u32]) -> Verdict
     let mut ok = true;
     let mut i = 0;
     while i + 1 < column.len() {
-        if column[i] < column[i + 1] {
-            i += 1;
-        } else {
-            ok = false;
-            i += 1;
-        }
+        ok = ok & (column[i] < column[i + 1]);
+        i += 1;
     }
     unless(ok, Refusal::OutOfRange)
 }

@@ -5,9 +5,9 @@ use mathlib.Core.Bool.{Bool, cond, not, _&&_}
 use Prim.Native.Nat.{_-_, _≤_}
 use borrow.Author.Needs.{needs}
 use lib.ListN.{length, drop, drop-of-length-le}
-use Rattle.laws.proofs.LoopLaws.{flag-stays, flag-falls, flag-ends}
+use Rattle.laws.proofs.LoopLaws.{flag-next, flag-ends}
 use Rattle.refusals.specs.Columns.{atMost}
-use Rattle.refusals.proofs.ColumnLaws.{atMost-passes, atMost-fails}
+use Rattle.refusals.proofs.ColumnLaws.{atMost-turn}
 use Rattle.refusals.proofs.at_most.Statement.{statement}
 use Rattle.refusals.proofs.at_most.Tie as tie
 
@@ -20,8 +20,8 @@ abbrev μ-loop : tie.MeasureT-loop
 loop-holds : tie.Need-loop-holds Inv-loop μ-loop
 loop-holds c = search needs
 
-shared-slice-read-if1 : tie.Need-shared-slice-read-if1 Inv-loop μ-loop
-shared-slice-read-if1 c = search needs
+shared-slice-read-ok : tie.Need-shared-slice-read-ok Inv-loop μ-loop
+shared-slice-read-ok c = search needs
 
 add-i : tie.Need-add-i Inv-loop μ-loop
 add-i c = search needs
@@ -31,19 +31,8 @@ loop-less c = search needs
 
 loop-again : tie.Need-loop-again Inv-loop μ-loop
 loop-again c =
-    let l = c .before .before .before .loop in
-    (search needs, flag-falls (l .ok) (l .inv .1) (atMost-fails _ _ _ (c .before .before .loop-test .taken) (c .if1 .taken)))
-
-add-i-2 : tie.Need-add-i-2 Inv-loop μ-loop
-add-i-2 c = search needs
-
-loop-less-2 : tie.Need-loop-less-2 Inv-loop μ-loop
-loop-less-2 c = search needs
-
-loop-again-2 : tie.Need-loop-again-2 Inv-loop μ-loop
-loop-again-2 c =
-    let l = c .before .before .before .loop in
-    (search needs, flag-stays (l .ok) (l .inv .1) (atMost-passes _ _ _ (c .before .before .loop-test .taken) (c .if1 .left)))
+    let l = c .before .before .loop in
+    (search needs, flag-next (l .ok) (l .inv .1) _ _ (atMost-turn _ _ _ (c .before .loop-test .taken)))
 
 unless-requires : tie.Need-unless-requires Inv-loop μ-loop
 unless-requires c κs = search needs
@@ -60,12 +49,9 @@ at-most-spec =
     Inv-loop
     μ-loop
     loop-holds
-    shared-slice-read-if1
+    shared-slice-read-ok
     add-i
     loop-less
     loop-again
-    add-i-2
-    loop-less-2
-    loop-again-2
     unless-requires
     returns)

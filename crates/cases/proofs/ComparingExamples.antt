@@ -4,7 +4,7 @@ use Prim.Native.Nat.{ℕ}
 use mathlib.Core.Bool.{true, false}
 use mathlib.Core.List.{List, [], _∷_}
 use mathlib.Core.Path.{_≡_, refl}
-use Rattle.columns.specs.Form.{numberAt, elements, lost, fits, columnAt}
+use Rattle.cases.specs.Form.{numberAt, elements, lost, fits, columnAt}
 use Rattle.cases.specs.Comparing.{same, Compare, comparedAt}
 
 -- Two numbers of two bytes, 258 and 772.

@@ -9,8 +9,8 @@ use lib.Dec.{eqb}
 use lib.ListN.{length, getD, take}
 use lib.Seq.{getD-at, length-take-le, take-length}
 use borrow.Author.Tests.{eq-eqb, eqb-true}
-use Rattle.columns.specs.Form.{elements, columnAt, Number, Found}
-use Rattle.columns.proofs.FormLaws.{Passed, passed-all}
+use Rattle.cases.specs.Form.{elements, columnAt, Number, Found}
+use Rattle.cases.proofs.FormLaws.{Passed, passed-all}
 use Rattle.cases.specs.Comparing.{same, Compare, against}
 
 -- A list is the same as itself.
@@ -38,6 +38,11 @@ same-false l m off = go (same l m) refl
     go : (t : Bool) → same l m ≡ t → t ≡ false
     go true e = absurd (off (same-true l m e))
     go false e = refl
+
+-- A test that holds exactly of equal lists says whether they are the same.
+pub same-told : (l m : List ℕ) (r : Bool) → (r ≡ true → l ≡ m) × (l ≡ m → r ≡ true) → r ≡ same l m
+same-told l m true p = sym (rw (p .0 refl) (same-refl m))
+same-told l m false p = sym (same-false l m (λ e. false≢true (p .1 e)))
 
 module _ {body : List ℕ} {w n from : ℕ} where
   -- All are compared: the column is l.

@@ -1,4 +1,6 @@
--- The laws that the proofs of `cases` share, and examples of comparing.
+-- The laws that the proofs of `cases` share, and the form on bodies that are small enough to read.
 -- Assumes nothing.
-pub mod ComparingExamples
+pub mod FormLaws
+pub mod FormExamples
 pub mod ComparingLaws
+pub mod ComparingExamples

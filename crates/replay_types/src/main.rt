@@ -3,7 +3,7 @@ ghost use Prim.Native.Nat.{_≤_};
 use letters::Category;
 use letters::JoiningType;
 use replays::Case;
-use replays::Outcome;
+use tallies::Outcome;
 
 fn shorter(a: usize, b: usize) -> usize
     ensures { λ r. ⌜ (r ≤ a) × (r ≤ b) ⌝ }
@@ -30,8 +30,8 @@ fn replay(body: &[u8], room: &mut [u8]) -> Outcome {
     let categories = cases::view_u8(body, &mut at, 4200);
     let n = resolve(types, categories, room);
     let agrees = cases::same_u8(body, &mut at, replays::front(room, n));
-    let formed = replays::both(types.len() == categories.len(), at == body.len());
-    replays::judged(formed, agrees)
+    let formed = (types.len() == categories.len()) & (at == body.len());
+    tallies::judged(formed, agrees)
 }
 
 // Lends the room for the answers, and nothing more.
@@ -56,9 +56,9 @@ fn turn() -> Outcome {
 }
 
 fn main() {
-    let mut tally = replays::begin();
+    let mut tally = tallies::begin();
     let mut what = turn();
-    while replays::goes_on(tally, what) {
+    while tallies::goes_on(tally, what) {
         tally = replays::tell(tally, what);
         what = turn();
     }

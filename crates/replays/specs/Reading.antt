@@ -1,15 +1,12 @@
--- What reading a case gives, and the columns that say yes or no.
---   within  whether a body that was read lies in its room
---   flag    whether a column is a yes-or-no
---   yes     whether it is a yes
+-- What reading a case gives: `within` whether a body that was read lies in its room; `stopped` what it comes to that there is none.
 -- Assumes nothing.
 use Prim.Native.Nat.{ℕ}
-use mathlib.Core.Bool.{Bool, true, _&&_}
-use mathlib.Core.List.{List}
-use lib.Dec.{leb, ltb, eqb}
-use lib.ListN.{length, getD}
+use mathlib.Core.Bool.{Bool, true}
+use lib.Dec.{leb}
 use Rattle.replays.specs.declared.Case.{Case}
 use Rattle.replays.specs.declared.Case.the-variants.{Body, End, Unreadable}
+use Rattle.tallies.specs.declared.Outcome.{Outcome}
+use Rattle.tallies.specs.declared.Outcome.the-variants as outcome
 
 -- Whether a body that was read is no longer than its room; the end and what is unreadable have no body.
 abbrev pub within : Case → ℕ → Bool
@@ -17,10 +14,9 @@ within (Body n) room = leb n room
 within End room = true
 within Unreadable room = true
 
--- "A yes-or-no is a column of one byte", 0 or 1; no other column is one.
-abbrev pub flag : List ℕ → Bool
-flag column = eqb (length column) 1 && ltb (getD column 0 0) 2
-
--- A yes is the one byte 1; every other column, also one that is no yes-or-no, is none.
-abbrev pub yes : List ℕ → Bool
-yes column = eqb (length column) 1 && eqb (getD column 0 0) 1
+-- What it comes to that there is no body: the end of the input, or bytes that are no case. A body by itself says nothing yet, and
+-- counts as the second.
+abbrev pub stopped : Case → Outcome
+stopped (Body n) = outcome.Unreadable
+stopped End = outcome.End
+stopped Unreadable = outcome.Unreadable

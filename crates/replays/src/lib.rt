@@ -1,34 +1,22 @@
-// Replaying cases: read from standard input, counted, and what differs is told on standard output.
+// Replaying cases: read from standard input, and what differs is told on standard output.
 //
-// A program reads a case to lent room by `next`, takes its body apart by the crate `cases`, makes the call, and says by `judged`
-// what the case comes to. Its `main` is a loop of `goes_on` and `tell`, and `finish` behind it.
+// A program reads a case to lent room by `next`, takes its body apart by the crate `cases`, makes the call, and says by
+// `tallies::judged` what the case comes to. Its `main` is a loop of `tallies::goes_on` and `tell`, and `finish` behind it.
 use libc::STDIN_FILENO;
 use libc::STDOUT_FILENO;
+use tallies::Outcome;
+use tallies::Tally;
 ghost use mathlib.Core.Path.{_≡_};
-ghost use mathlib.Core.Bool.{true, _&&_};
-ghost use lib.ListN.{length, take, getD};
-ghost use Rattle.replays.specs.Reading.{within, flag, yes};
-ghost use Rattle.replays.specs.Verdicts.{stopped, judged, isCase, isOff, up, counted, goesOn};
+ghost use mathlib.Core.Bool.{true};
+ghost use lib.ListN.{length, take};
+ghost use Rattle.replays.specs.Reading.{within, stopped};
+ghost use Rattle.tallies.specs.Counting.{counted};
 
 // A case: the bytes of its body, or the end of the input, or bytes that are no case.
 pub enum Case {
     Body(usize),
     End,
     Unreadable,
-}
-
-// What a case comes to: it is as it must be, or not; or the input ends; or there is no such case.
-pub enum Outcome {
-    Same,
-    Differs,
-    End,
-    Unreadable,
-}
-
-// How many cases there were, and how many of them differ.
-pub struct Tally {
-    pub cases: u64,
-    pub differ: u64,
 }
 
 // The length of the next body, as the input says it.
@@ -41,7 +29,7 @@ fn announced() -> Case {
     if n < 4 {
         return Case::Unreadable;
     }
-    Case::Body(cases::number(&four, 0, 4))
+    Case::Body(cases::length_of(four))
 }
 
 // Reads a body of `n` bytes to the start of the room.
@@ -91,139 +79,6 @@ pub fn stopped(c: Case) -> Outcome
     }
 }
 
-// A yes-or-no is one byte, 0 or 1.
-pub fn is_flag(column: &[u8]) -> bool
-    ensures { λ r. ⌜ r ≡ flag (now (column .entry)) ⌝ }
-{
-    if column.len() != 1 {
-        return false;
-    }
-    column[0] < 2
-}
-
-// A yes is the byte 1.
-pub fn is_set(column: &[u8]) -> bool
-    ensures { λ r. ⌜ r ≡ yes (now (column .entry)) ⌝ }
-{
-    if column.len() != 1 {
-        return false;
-    }
-    column[0] == 1
-}
-
-// The first element of a column, or 0 if there is none: a single number is a column of one element.
-pub fn first_u8(column: &[u8]) -> u8
-    ensures { λ r. ⌜ r ≡ getD (now (column .entry)) 0 0 ⌝ }
-{
-    if column.len() == 0 {
-        return 0;
-    }
-    column[0]
-}
-
-pub fn first_u16(column: &[u16]) -> u16
-    ensures { λ r. ⌜ r ≡ getD (now (column .entry)) 0 0 ⌝ }
-{
-    if column.len() == 0 {
-        return 0;
-    }
-    column[0]
-}
-
-pub fn first_u32(column: &[u32]) -> u32
-    ensures { λ r. ⌜ r ≡ getD (now (column .entry)) 0 0 ⌝ }
-{
-    if column.len() == 0 {
-        return 0;
-    }
-    column[0]
-}
-
-// Two findings as one, so that a program that has several stays one path.
-pub fn both(a: bool, b: bool) -> bool
-    ensures { λ r. ⌜ r ≡ (a && b) ⌝ }
-{
-    if a { b } else { false }
-}
-
-// What a case comes to, by whether its body is of the form and whether every comparison agrees.
-pub fn judged(formed: bool, agrees: bool) -> Outcome
-    ensures { λ r. ⌜ r ≡ judged formed agrees ⌝ }
-{
-    if formed {
-        if agrees {
-            Outcome::Same
-        } else {
-            Outcome::Differs
-        }
-    } else {
-        Outcome::Unreadable
-    }
-}
-
-// Before the first case.
-pub fn begin() -> Tally
-    ensures { λ r. ⌜ (r .cases ≡ 0) × (r .differ ≡ 0) ⌝ }
-{
-    Tally {
-        cases: 0,
-        differ: 0,
-    }
-}
-
-// Whether it is a case at all, and no end of them.
-fn is_case(what: Outcome) -> bool
-    ensures { λ r. ⌜ r ≡ isCase what ⌝ }
-{
-    match what {
-        Outcome::Same => true,
-        Outcome::Differs => true,
-        Outcome::End => false,
-        Outcome::Unreadable => false,
-    }
-}
-
-fn is_off(what: Outcome) -> bool
-    ensures { λ r. ⌜ r ≡ isOff what ⌝ }
-{
-    match what {
-        Outcome::Same => false,
-        Outcome::Differs => true,
-        Outcome::End => false,
-        Outcome::Unreadable => false,
-    }
-}
-
-// Whether this is a case that can be counted. A loop that asks it ends: the tally grows with each case.
-pub fn goes_on(t: Tally, what: Outcome) -> bool
-    ensures { λ r. ⌜ r ≡ goesOn t what ⌝ }
-{
-    both(is_case(what), t.cases < 18446744073709551615)
-}
-
-// One more, if asked for.
-fn up(more: bool, n: u64) -> u64
-    ensures { λ r. ⌜ r ≡ up more n ⌝ }
-{
-    if !more {
-        return n;
-    }
-    if n < 18446744073709551615 {
-        return n + 1;
-    }
-    n
-}
-
-// The tally with one more case.
-pub fn counted(t: Tally, what: Outcome) -> Tally
-    ensures { λ r. ⌜ r ≡ counted t what ⌝ }
-{
-    Tally {
-        cases: up(is_case(what), t.cases),
-        differ: up(is_off(what), t.differ),
-    }
-}
-
 // Writes a number, and what stands before and behind it.
 fn say(before: &[u8], n: u64, behind: &[u8]) {
     io::write_all(STDOUT_FILENO, before);
@@ -252,10 +107,12 @@ fn say_differ(n: u64) {
 pub fn tell(t: Tally, what: Outcome) -> Tally
     ensures { λ r. ⌜ r ≡ counted t what ⌝ }
 {
-    if both(is_off(what), t.differ < 10) {
-        say_differs(t.cases);
+    if let Outcome::Differs = what {
+        if t.differ < 10 {
+            say_differs(t.cases);
+        }
     }
-    counted(t, what)
+    tallies::counted(t, what)
 }
 
 // The last line: how many cases there were and how many differ, or which one is unreadable.

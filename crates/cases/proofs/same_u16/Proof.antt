@@ -3,7 +3,7 @@
 use Prim.Native.Nat.{_-_}
 use native.Mathlib.Omega.{arith}
 use borrow.Author.Needs.{needs}
-use Rattle.columns.proofs.FormLaws.{Passed, passed-none, passed-inside, passed-equal, length-elements}
+use Rattle.cases.proofs.FormLaws.{Passed, passed-none, passed-inside, passed-equal, length-elements}
 use Rattle.cases.proofs.ComparingLaws.{same-count, passed-same, passed-off, found-compared}
 use Rattle.cases.proofs.same_u16.Statement.{statement}
 use Rattle.cases.proofs.same_u16.Tie as tie

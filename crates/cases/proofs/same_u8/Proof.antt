@@ -1,80 +1,24 @@
--- `cases::same_u8` meets its contract: the first `i` elements are those of `got`, the others lie from `k` on.
+-- `cases::same_u8` meets its contract: the kit's comparison holds exactly of equal bytes.
 -- Assumes nothing.
-use Prim.Native.Nat.{_-_}
-use native.Mathlib.Omega.{arith}
+use mathlib.Core.Path.{ap, _∙_}
+use mathlib.Core.Bool.{Bool}
+use Rattle.cases.specs.Comparing.{Compare, against}
+use Rattle.cases.proofs.ComparingLaws.{same-told}
 use borrow.Author.Needs.{needs}
-use Rattle.columns.proofs.FormLaws.{Passed, passed-none, passed-inside, passed-equal, length-elements}
-use Rattle.cases.proofs.ComparingLaws.{same-count, passed-same, passed-off, found-compared}
 use Rattle.cases.proofs.same_u8.Statement.{statement}
 use Rattle.cases.proofs.same_u8.Tie as tie
 
-abbrev Inv-loop : tie.InvT-loop
-Inv-loop body at got count k₀ i₀ k i = Passed body 1 count k₀ got k i
+view-u8-requires : tie.Need-view-u8-requires
+view-u8-requires c κs = search needs
 
-abbrev μ-loop : tie.MeasureT-loop
-μ-loop body at got count k₀ i₀ k i = count - i
+same-requires : tie.Need-same-requires
+same-requires c κs = search needs
 
-find-requires : tie.Need-find-requires Inv-loop μ-loop
-find-requires c κs = omega arith
-
-returns : tie.Need-returns Inv-loop μ-loop
-returns c = found-compared _ (c .before .find .ensures) (same-count _ _ (rw length-elements (c .if1 .taken)))
-
-loop-holds : tie.Need-loop-holds Inv-loop μ-loop
-loop-holds c = passed-none (c .before .find .ensures .inside)
-
-number-requires : tie.Need-number-requires Inv-loop μ-loop
-number-requires c κs = (passed-inside (c .loop-test .taken) (c .before .loop .inv), omega arith)
-
-cast-if2 : tie.Need-cast-if2 Inv-loop μ-loop
-cast-if2 c = omega (arith, c .number .ensures .below)
-
-shared-slice-read-if2 : tie.Need-shared-slice-read-if2 Inv-loop μ-loop
-shared-slice-read-if2 c = search needs
-
-returns-2 : tie.Need-returns-2 Inv-loop μ-loop
-returns-2 c =
-    let n = c .before .before in
-    let l = n .before .before in
-    found-compared _ (l .before .before .find .ensures)
-    (passed-off (n .before .loop-test .taken) (omega arith) (n .number .ensures) (c .if2 .taken) (l .loop .inv))
-
-add-k : tie.Need-add-k Inv-loop μ-loop
-add-k c = search needs
-
-add-i : tie.Need-add-i Inv-loop μ-loop
-add-i c = search needs
-
-loop-less : tie.Need-loop-less Inv-loop μ-loop
-loop-less c = search needs
-
-loop-again : tie.Need-loop-again Inv-loop μ-loop
-loop-again c =
-    let n = c .before .before in
-    let l = n .before .before in
-    passed-equal (n .before .loop-test .taken) (omega arith) (n .number .ensures) (c .if2 .left) (l .loop .inv)
-
-returns-3 : tie.Need-returns-3 Inv-loop μ-loop
-returns-3 c =
-    let l = c .before in
-    found-compared _ (l .before .before .find .ensures)
-    (passed-same (l .before .if1 .left) (c .loop-test .left) (l .loop .inv))
+returns : tie.Need-returns
+returns c =
+    let v = c .before .view-u8 in
+    let got = c .before .before .before .before .before .args .got .now in
+    ap (λ (b : Bool). Compare b (v .last .1 .0)) (same-told (v .result .now) got (c .same .result) (c .same .ensures)) ∙ ap (against got) (v .ensures)
 
 pub same-u8-spec : {M : Type 1} → statement M
-same-u8-spec =
-    tie.close
-    (tie.spec
-    Inv-loop
-    μ-loop
-    find-requires
-    returns
-    loop-holds
-    number-requires
-    cast-if2
-    shared-slice-read-if2
-    returns-2
-    add-k
-    add-i
-    loop-less
-    loop-again
-    returns-3)
+same-u8-spec = tie.close (tie.spec view-u8-requires same-requires returns)

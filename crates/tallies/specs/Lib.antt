@@ -1,0 +1,3 @@
+-- The definitions that the contracts of `tallies` cite.
+-- Assumes nothing.
+pub mod Counting

@@ -1,7 +1,7 @@
 -- Laws on the numbers and columns of a body, over the width.
 -- Assumes nothing.
 use Prim.Native.Nat.{ℕ, zero, suc, _+_, _-_, _*_, _≤_, _<_}
-use mathlib.Core.Bool.{Bool, true, false, cond, _&&_, false≢true}
+use mathlib.Core.Bool.{Bool, true, false, cond, _&&_, false≢true, and-eq-true-iff}
 use mathlib.Core.List.{List, [], _∷_, _++_, append-nil}
 use mathlib.Core.Path.{_≡_, refl, sym, ap, _∙_}
 use native.Mathlib.Nat.{add-zero, zero-add, add-sub-cancel-left, pow-suc, pow-le-pow-right, lt-of-lt-of-le, mul-le-mul, suc-mul}
@@ -51,12 +51,17 @@ some-fails true true false d off = refl
 some-fails true true true false off = refl
 some-fails true true true true off = absurd (off refl refl refl refl)
 
--- Four tests that all hold: so does the last.
-last-holds : (a b c d : Bool) → (a && (b && (c && d))) ≡ true → d ≡ true
-last-holds false b c d e = absurd (false≢true e)
-last-holds true false c d e = absurd (false≢true e)
-last-holds true true false d e = absurd (false≢true e)
-last-holds true true true d e = e
+-- A column's three tests behind its head, as code makes them: its width x is w, its b bytes lie in the r that are left, and its n elements
+-- are at most m.
+module _ (x w b r n m : ℕ) where
+  pub tests-hold : (eqb x w && (leb b r && leb n m)) ≡ true → (x ≡ w) × (b ≤ r) × (n ≤ m)
+  tests-hold e =
+      let p = and-eq-true-iff (eqb x w) (leb b r && leb n m) .0 e in
+      let q = and-eq-true-iff (leb b r) (leb n m) .0 (p .1) in
+      (eqb-true x w (p .0), leb-true b r (q .0), leb-true n m (q .1))
+
+  pub tests-fail : (eqb x w && (leb b r && leb n m)) ≡ false → x ≡ w → b ≤ r → n ≤ m → ⊥
+  tests-fail e p q s = false≢true (sym e ∙ simp (eq-eqb x w p, le-leb b r q, le-leb n m s))
 
 module _ {body : List ℕ} {w most at : ℕ} where
   fits-true : Fits body w most at → fits body w most at ≡ true
@@ -102,8 +107,8 @@ taken-few body w most at l next = go (fits body w most at) refl
     go true e q =
         let n = numberAt body 4 at in
         let same : l ≡ elements body w (at + 5) n = cc in
-        let few : leb n most ≡ true = last-holds (leb (at + 5) (length body)) (eqb (getD body (at + 4) 0) w) (leb (at + 5 + n * w) (length body)) (leb n most) e in
-        omega (arith, ap length same, length-elements body w (at + 5) n, leb-true n most few)
+        let few = tests-hold (getD body (at + 4) 0) w (at + 5 + n * w) (length body) n most (and-eq-true-iff (leb (at + 5) (length body)) _ .0 e .1) .2 in
+        omega (arith, ap length same, length-elements body w (at + 5) n, few)
     go false e q =
         let none : l ≡ [] = cc in
         omega (arith, ap length none)

@@ -2,4 +2,3 @@
 -- Assumes nothing.
 pub mod Form
 pub mod Comparing
-pub mod Singles

@@ -5,10 +5,9 @@
 // own functions; wider elements are put together here, one loop for each width, and one law over the width behind them.
 ghost use mathlib.Core.Path.{_≡_};
 ghost use Prim.Native.Nat.{_+_, _-_, _*_, _≤_, _<_};
-ghost use lib.ListN.{length, getD};
+ghost use lib.ListN.{length};
 ghost use Rattle.cases.specs.Form.{numberAt, Took, columnAt, Number, Found};
 ghost use Rattle.cases.specs.Comparing.{Compare, comparedAt};
-ghost use Rattle.cases.specs.Singles.{flag, yes};
 
 // Where the elements of a column lie, how many they are, and where the next column starts.
 struct Span {
@@ -63,23 +62,17 @@ fn find(body: &[u8], at: usize, width: usize, most: usize) -> Span
     if room < 5 {
         return NONE;
     }
-    if wide(body[at + 4]) != width {
-        return NONE;
-    }
     let count = number(body, at, 4);
-    if most < count {
-        return NONE;
-    }
     let bytes = count * width;
-    if room - 5 < bytes {
-        return NONE;
+    if (wide(body[at + 4]) == width) & ((bytes <= room - 5) & (count <= most)) {
+        let from = at + 5;
+        return Span {
+            from: from,
+            count: count,
+            next: from + bytes,
+        };
     }
-    let from = at + 5;
-    Span {
-        from: from,
-        count: count,
-        next: from + bytes,
-    }
+    NONE
 }
 
 // The length of a body, as the four bytes before it say.
@@ -187,52 +180,4 @@ pub fn same_u32(body: &[u8], at: &mut usize, got: &[u32]) -> bool
         i += 1;
     }
     true
-}
-
-// A yes-or-no is one byte, 0 or 1.
-pub fn is_flag(column: &[u8]) -> bool
-    ensures { λ r. ⌜ r ≡ flag (now (column .entry)) ⌝ }
-{
-    if column.len() != 1 {
-        return false;
-    }
-    column[0] < 2
-}
-
-// A yes is the byte 1.
-pub fn is_set(column: &[u8]) -> bool
-    ensures { λ r. ⌜ r ≡ yes (now (column .entry)) ⌝ }
-{
-    if column.len() != 1 {
-        return false;
-    }
-    column[0] == 1
-}
-
-// The first element of a column, or 0 if there is none: a single number is a column of one element.
-pub fn first_u8(column: &[u8]) -> u8
-    ensures { λ r. ⌜ r ≡ getD (now (column .entry)) 0 0 ⌝ }
-{
-    if column.len() == 0 {
-        return 0;
-    }
-    column[0]
-}
-
-pub fn first_u16(column: &[u16]) -> u16
-    ensures { λ r. ⌜ r ≡ getD (now (column .entry)) 0 0 ⌝ }
-{
-    if column.len() == 0 {
-        return 0;
-    }
-    column[0]
-}
-
-pub fn first_u32(column: &[u32]) -> u32
-    ensures { λ r. ⌜ r ≡ getD (now (column .entry)) 0 0 ⌝ }
-{
-    if column.len() == 0 {
-        return 0;
-    }
-    column[0]
 }

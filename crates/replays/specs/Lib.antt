@@ -1,3 +1,4 @@
 -- The definitions that the contracts of `replays` cite.
 -- Assumes nothing.
 pub mod Reading
+pub mod Singles

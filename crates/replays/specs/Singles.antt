@@ -1,4 +1,4 @@
--- Columns that stand for one thing: `flag` whether a column is a yes-or-no; `yes` whether it is a yes.
+-- Columns that stand for one thing: `flag` whether a column is a yes-or-no.
 -- Assumes nothing.
 use Prim.Native.Nat.{ℕ}
 use mathlib.Core.Bool.{Bool, _&&_}
@@ -9,7 +9,3 @@ use lib.ListN.{length, getD}
 -- "A yes-or-no is a column of one byte", 0 or 1; no other column is one.
 abbrev pub flag : List ℕ → Bool
 flag column = eqb (length column) 1 && ltb (getD column 0 0) 2
-
--- A yes is the one byte 1; every other column, also one that is no yes-or-no, is none.
-abbrev pub yes : List ℕ → Bool
-yes column = eqb (length column) 1 && eqb (getD column 0 0) 1

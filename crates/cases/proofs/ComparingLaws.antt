@@ -9,8 +9,9 @@ use lib.Dec.{eqb}
 use lib.ListN.{length, getD, take}
 use lib.Seq.{getD-at, length-take-le, take-length}
 use borrow.Author.Tests.{eq-eqb, eqb-true}
-use Rattle.cases.specs.Form.{elements, columnAt, Number, Found}
-use Rattle.cases.proofs.FormLaws.{Passed, passed-all}
+use Rattle.columns.specs.declared.Span.{Span}
+use Rattle.columns.specs.Form.{numberAt, elements, columnAt}
+use Rattle.columns.proofs.FormLaws.{Found, Passed, passed-all}
 use Rattle.cases.specs.Comparing.{same, Compare, against}
 
 -- A list is the same as itself.
@@ -51,7 +52,7 @@ module _ {body : List ℕ} {w n from : ℕ} where
   passed-same {l} e h p = rw (passed-all h p, e, take-length) (same-refl l)
 
   -- The next is another than that of l.
-  pub passed-off : {l : List ℕ} {k i x : ℕ} → i < n → i < length l → Number body w k x → (x ≡ getD l i 0 → ⊥)
+  pub passed-off : {l : List ℕ} {k i x : ℕ} → i < n → i < length l → x ≡ numberAt body w k → (x ≡ getD l i 0 → ⊥)
       → Passed body w n from l k i → same (elements body w from n) l ≡ false
   unfolding elements
   passed-off {l} {k} {i} h b e off p = go (p .left) (p .counted) (p .so)
@@ -61,11 +62,11 @@ module _ {body : List ℕ} {w n from : ℕ} where
       go zero c s = absurd (omega arith)
       go (suc r) c s =
           same-false _ _
-          (λ q. off (e .is ∙ sym (getD-at (take i l) _ _ 0 i (length-take-le i l (omega arith))) ∙ ap (λ (z : List ℕ). getD z i 0) (sym s ∙ q)))
+          (λ q. off (e ∙ sym (getD-at (take i l) _ _ 0 i (length-take-le i l (omega arith))) ∙ ap (λ (z : List ℕ). getD z i 0) (sym s ∙ q)))
 
 -- What was found, held against a list.
-pub found-compared : {body : List ℕ} {w most at from n next : ℕ} {t : Bool} (l : List ℕ) → Found body w most at from n next
-    → same (elements body w from n) l ≡ t → Compare t next ≡ against l (columnAt body w most at)
+pub found-compared : {body : List ℕ} {w most at : ℕ} {s : Span} {t : Bool} (l : List ℕ) → Found body w most at s
+    → same (elements body w (s .from) (s .count)) l ≡ t → Compare t (s .next) ≡ against l (columnAt body w most at)
 found-compared l f e = rw (← (f .is), e)
 
 -- Lists of other lengths are not the same.

@@ -9,7 +9,7 @@ use mathlib.Core.Bool.{Bool, true, false, _&&_}
 use mathlib.Core.List.{List, [], _∷_}
 use lib.Dec.{eqb}
 use lib.ListN.{length}
-use Rattle.cases.specs.Form.{Taken, Took, columnAt}
+use Rattle.columns.specs.Form.{Taken, Took, columnAt}
 
 -- Whether two lists are the same, in number and in each element.
 unfoldable pub same : List ℕ → List ℕ → Bool

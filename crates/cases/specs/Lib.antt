@@ -1,4 +1,4 @@
 -- The definitions that the contracts of `cases` cite.
 -- Assumes nothing.
-pub mod Form
 pub mod Comparing
+pub mod Singles

@@ -26,8 +26,8 @@ fn resolve(types: &[u8], categories: &[u8], room: &mut [u8]) -> usize {
 // Makes the call of a case and compares.
 fn replay(body: &[u8], room: &mut [u8]) -> Outcome {
     let mut at: usize = 0;
-    let types = cases::view_u8(body, &mut at, 4200);
-    let categories = cases::view_u8(body, &mut at, 4200);
+    let types = columns::view_u8(body, &mut at, 4200);
+    let categories = columns::view_u8(body, &mut at, 4200);
     let n = resolve(types, categories, room);
     let agrees = cases::same_u8(body, &mut at, replays::front(room, n));
     let formed = (types.len() == categories.len()) & (at == body.len());

@@ -1,4 +1,3 @@
 -- The definitions that the contracts of `replays` cite.
 -- Assumes nothing.
 pub mod Reading
-pub mod Singles

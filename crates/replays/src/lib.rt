@@ -1,6 +1,6 @@
 // Replaying cases: read from standard input, and what differs is told on standard output.
 //
-// A program reads a case to lent room by `next`, takes its body apart by the crate `cases`, makes the call, and says by
+// A program reads a case to lent room by `next`, takes its body apart by the crates `columns` and `cases`, makes the call, and says by
 // `tallies::judged` what the case comes to. Its `main` is a loop of `tallies::goes_on` and `tell`, and `finish` behind it.
 use libc::STDIN_FILENO;
 use libc::STDOUT_FILENO;
@@ -8,9 +8,8 @@ use tallies::Outcome;
 use tallies::Tally;
 ghost use mathlib.Core.Path.{_≡_};
 ghost use mathlib.Core.Bool.{true};
-ghost use lib.ListN.{length, take, getD};
+ghost use lib.ListN.{length, take};
 ghost use Rattle.replays.specs.Reading.{within, stopped};
-ghost use Rattle.replays.specs.Singles.{flag};
 ghost use Rattle.tallies.specs.Counting.{counted};
 
 // A case: the bytes of its body, or the end of the input, or bytes that are no case.
@@ -30,7 +29,7 @@ fn announced() -> Case {
     if n < 4 {
         return Case::Unreadable;
     }
-    Case::Body(cases::length_of(four))
+    Case::Body(columns::u32_at(&four, 0) as usize)
 }
 
 // Reads a body of `n` bytes to the start of the room.
@@ -78,41 +77,6 @@ pub fn stopped(c: Case) -> Outcome
         Case::End => Outcome::End,
         Case::Unreadable => Outcome::Unreadable,
     }
-}
-
-// A yes-or-no is one byte, 0 or 1.
-pub fn is_flag(column: &[u8]) -> bool
-    ensures { λ r. ⌜ r ≡ flag (now (column .entry)) ⌝ }
-{
-    (column.len() == 1) & (first_u8(column) < 2)
-}
-
-// The first element of a column, or 0 if there is none: a single number is a column of one element.
-pub fn first_u8(column: &[u8]) -> u8
-    ensures { λ r. ⌜ r ≡ getD (now (column .entry)) 0 0 ⌝ }
-{
-    if column.len() == 0 {
-        return 0;
-    }
-    column[0]
-}
-
-pub fn first_u16(column: &[u16]) -> u16
-    ensures { λ r. ⌜ r ≡ getD (now (column .entry)) 0 0 ⌝ }
-{
-    if column.len() == 0 {
-        return 0;
-    }
-    column[0]
-}
-
-pub fn first_u32(column: &[u32]) -> u32
-    ensures { λ r. ⌜ r ≡ getD (now (column .entry)) 0 0 ⌝ }
-{
-    if column.len() == 0 {
-        return 0;
-    }
-    column[0]
 }
 
 // Writes a number, and what stands before and behind it.

@@ -3,7 +3,7 @@
 use Prim.Native.Nat.{_-_}
 use native.Mathlib.Omega.{arith}
 use borrow.Author.Needs.{needs}
-use Rattle.cases.proofs.FormLaws.{Passed, passed-none, passed-inside, passed-equal, length-elements}
+use Rattle.columns.proofs.FormLaws.{found, Passed, passed-none, passed-equal, length-elements}
 use Rattle.cases.proofs.ComparingLaws.{same-count, passed-same, passed-off, found-compared}
 use Rattle.cases.proofs.same_u16.Statement.{statement}
 use Rattle.cases.proofs.same_u16.Tie as tie
@@ -18,16 +18,13 @@ find-requires : tie.Need-find-requires Inv-loop μ-loop
 find-requires c κs = omega arith
 
 returns : tie.Need-returns Inv-loop μ-loop
-returns c = found-compared _ (c .before .find .ensures) (same-count _ _ (rw length-elements (c .if1 .taken)))
+returns c = found-compared _ (found _ _ _ _ _ (c .before .find .ensures)) (same-count _ _ (rw length-elements (c .if1 .taken)))
 
 loop-holds : tie.Need-loop-holds Inv-loop μ-loop
-loop-holds c = passed-none (c .before .find .ensures .inside)
+loop-holds c = passed-none (found _ _ _ _ _ (c .before .find .ensures) .inside)
 
-number-requires : tie.Need-number-requires Inv-loop μ-loop
-number-requires c κs = (passed-inside (c .loop-test .taken) (c .before .loop .inv), omega arith)
-
-cast-if2 : tie.Need-cast-if2 Inv-loop μ-loop
-cast-if2 c = omega (arith, c .number .ensures .below)
+u16-at-requires : tie.Need-u16-at-requires Inv-loop μ-loop
+u16-at-requires c κs = search needs
 
 mul-if2 : tie.Need-mul-if2 Inv-loop μ-loop
 mul-if2 c = search needs
@@ -39,8 +36,8 @@ returns-2 : tie.Need-returns-2 Inv-loop μ-loop
 returns-2 c =
     let n = c .before .before in
     let l = n .before .before in
-    found-compared _ (l .before .before .find .ensures)
-    (passed-off (n .before .loop-test .taken) (omega arith) (n .number .ensures) (c .if2 .taken) (l .loop .inv))
+    found-compared _ (found _ _ _ _ _ (l .before .before .find .ensures))
+    (passed-off (n .before .loop-test .taken) (omega arith) (n .u16-at .ensures) (c .if2 .taken) (l .loop .inv))
 
 add-k : tie.Need-add-k Inv-loop μ-loop
 add-k c = search needs
@@ -55,12 +52,12 @@ loop-again : tie.Need-loop-again Inv-loop μ-loop
 loop-again c =
     let n = c .before .before in
     let l = n .before .before in
-    passed-equal (n .before .loop-test .taken) (omega arith) (n .number .ensures) (c .if2 .left) (l .loop .inv)
+    passed-equal (n .before .loop-test .taken) (omega arith) (n .u16-at .ensures) (c .if2 .left) (l .loop .inv)
 
 returns-3 : tie.Need-returns-3 Inv-loop μ-loop
 returns-3 c =
     let l = c .before in
-    found-compared _ (l .before .before .find .ensures)
+    found-compared _ (found _ _ _ _ _ (l .before .before .find .ensures))
     (passed-same (l .before .if1 .left) (c .loop-test .left) (l .loop .inv))
 
 pub same-u16-spec : {M : Type 1} → statement M
@@ -72,8 +69,7 @@ same-u16-spec =
     find-requires
     returns
     loop-holds
-    number-requires
-    cast-if2
+    u16-at-requires
     mul-if2
     shared-slice-read-if2
     returns-2

@@ -1,14 +1,14 @@
--- `cases::take_u8` meets its contract: what is copied to the front is what is viewed.
+-- `columns::take_u8` meets its contract: what is copied to the front is what is viewed.
 -- Assumes nothing.
 use mathlib.Core.Path.{_≡_, sym, ap, _∙_}
 use mathlib.Core.List.{List, _++_}
 use Prim.Native.Nat.{ℕ}
 use lib.ListN.{length, take, drop}
-use Rattle.cases.specs.Form.{Took}
-use Rattle.cases.proofs.FormLaws.{taken-few, copied-front}
+use Rattle.columns.specs.Form.{Took}
+use Rattle.columns.proofs.FormLaws.{taken-few, copied-front}
 use borrow.Author.Needs.{needs}
-use Rattle.cases.proofs.take_u8.Statement.{statement}
-use Rattle.cases.proofs.take_u8.Tie as tie
+use Rattle.columns.proofs.take_u8.Statement.{statement}
+use Rattle.columns.proofs.take_u8.Tie as tie
 
 -- the front of the room once it is copied to
 front : (c : tie.After-out2) → let k = c .before .before .before in take (k .copy .result) (k .copy .last .1 .0) ≡ k .before .before .view-u8 .result .now

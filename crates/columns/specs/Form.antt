@@ -3,17 +3,18 @@
 --   elements    so many numbers from a place on
 --   lost        the cursor past every body
 --   fits        whether the column that is asked for stands at the cursor
+--   span        where a column lies
+--   spanAt      the column at a cursor
 --   Taken       the elements of a column, and the cursor behind it
+--   takenAt     what is taken where a column lies
 --   columnAt    what is taken at a cursor
---   Number      what reading one number promises
---   Found       what looking for a column promises
 -- Assumes nothing.
-use Prim.Native.Nat.{ℕ, zero, suc, _+_, _*_, _^_, _≤_, _<_}
+use Prim.Native.Nat.{ℕ, zero, suc, _+_, _*_}
 use mathlib.Core.Bool.{Bool, cond, _&&_}
 use mathlib.Core.List.{List, [], _∷_}
-use mathlib.Core.Path.{_≡_}
 use lib.Dec.{leb, eqb}
 use lib.ListN.{length, getD}
+use Rattle.columns.specs.declared.Span.{Span}
 
 -- The number in w bytes from a place on, the highest first; 0 for no bytes. A byte past the end counts as 0.
 unfoldable pub numberAt : List ℕ → ℕ → ℕ → ℕ
@@ -37,25 +38,22 @@ fits body w most at =
     && (eqb (getD body (at + 4) 0) w
     && (leb (at + 5 + numberAt body 4 at * w) (length body) && leb (numberAt body 4 at) most))
 
+-- Where a column lies: the place of its first element, how many there are, the cursor behind them.
+abbrev pub span : ℕ → ℕ → ℕ → Span
+span from count next = record { from = from; count = count; next = next }
+
+-- The column at a cursor; where the bytes are of another form, one of no elements that loses the cursor.
+unfoldable pub spanAt : List ℕ → ℕ → ℕ → ℕ → Span
+spanAt body w most at = cond (fits body w most at) (span (at + 5) (numberAt body 4 at) (at + 5 + numberAt body 4 at * w)) (span 0 0 lost)
+
 -- The elements of a column, and the cursor behind it.
 pub data Taken : Type 0 where
   Took : (elements : List ℕ) → (next : ℕ) → Taken
 
+-- What is taken where a column lies.
+abbrev pub takenAt : List ℕ → ℕ → Span → Taken
+takenAt body w s = Took (elements body w (s .from) (s .count)) (s .next)
+
 -- What is taken at a cursor: the column there; none, and the cursor is lost, where the bytes are of another form.
 unfoldable pub columnAt : List ℕ → ℕ → ℕ → ℕ → Taken
-columnAt body w most at =
-    cond (fits body w most at)
-    (Took (elements body w (at + 5) (numberAt body 4 at)) (at + 5 + numberAt body 4 at * w))
-    (Took [] lost)
-
--- What reading one number promises: it is the number in w bytes from a place on, and no more than they can hold.
-pub record Number (bytes : List ℕ) (w at r : ℕ) : Type 0 where
-  pub is : r ≡ numberAt bytes w at
-  pub below : r < 256 ^ w
-
--- What looking for a column promises: `count` elements from `from` on, not too many, which all lie in the body, are what is taken at
--- the cursor. Where the bytes are of another form, there are none of them and `next` is lost.
-pub record Found (body : List ℕ) (w most at from count next : ℕ) : Type 0 where
-  pub inside : from + count * w ≤ length body
-  pub few : count ≤ most
-  pub is : Took (elements body w from count) next ≡ columnAt body w most at
+columnAt body w most at = takenAt body w (spanAt body w most at)

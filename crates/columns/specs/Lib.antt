@@ -1,0 +1,3 @@
+-- The definitions that the contracts of `columns` cite.
+-- Assumes nothing.
+pub mod Form

@@ -12,7 +12,7 @@ use borrow.Author.Tests.{eq-eqb, eqb-true}
 use Rattle.columns.specs.declared.Span.{Span}
 use Rattle.columns.specs.Form.{numberAt, elements, columnAt}
 use Rattle.columns.proofs.FormLaws.{Found, Passed, passed-all}
-use Rattle.cases.specs.Comparing.{same, Compare, against}
+use Rattle.cases.specs.Comparing.{same, Compared, Compare, against}
 
 -- A list is the same as itself.
 pub same-refl : (l : List ℕ) → same l l ≡ true
@@ -72,3 +72,7 @@ found-compared l f e = rw (← (f .is), e)
 -- Lists of other lengths are not the same.
 pub same-count : (l m : List ℕ) → (length l ≡ length m → ⊥) → same l m ≡ false
 same-count l m off = same-false l m (λ e. off (ap length e))
+
+-- The statement of comparing allows one answer and one cursor.
+pub compared-once : {c : Compared} {a b : Bool} {n k : ℕ} → Compare a n ≡ c → Compare b k ≡ c → (a ≡ b) × (n ≡ k)
+compared-once p q = (cc, cc)

@@ -12,7 +12,7 @@ use lib.ListN.{length, getD, set, take, drop}
 use lib.Seq.{drop-cons, take-suc, take-suc-set, append-snoc, take-length, take-append-seam}
 use borrow.Author.Tests.{le-leb, eq-eqb, leb-true, eqb-true}
 use Rattle.columns.specs.declared.Span.{Span}
-use Rattle.columns.specs.Form.{numberAt, elements, lost, fits, span, spanAt, Took, takenAt, columnAt}
+use Rattle.columns.specs.Form.{numberAt, elements, lost, fits, span, spanAt, Taken, Took, takenAt, columnAt}
 
 -- The bytes of so many elements, of which four bytes and one say the number and the width, are few.
 pub bytes-few : (n w : ℕ) → n ≤ 4294967295 → w ≤ 255 → n * w ≤ 1095216660225
@@ -193,3 +193,7 @@ bytes-are body from n h = rw (add-sub-cancel-left from n) (go n from h)
     go (suc n) from h =
         rw (drop-cons body from 0 (omega arith), byte-is body from, add-one from)
         (ap (λ (l : List ℕ). getD body from 0 ∷ l) (go n (suc from) (omega arith)))
+
+-- The statement of taking allows one answer and one cursor.
+pub taken-once : {t : Taken} {l m : List ℕ} {n k : ℕ} → Took l n ≡ t → Took m k ≡ t → (l ≡ m) × (n ≡ k)
+taken-once p q = (cc, cc)

@@ -76,3 +76,8 @@ same-count l m off = same-false l m (λ e. off (ap length e))
 -- The statement of comparing allows one answer and one cursor.
 pub compared-once : {c : Compared} {a b : Bool} {n k : ℕ} → Compare a n ≡ c → Compare b k ≡ c → (a ≡ b) × (n ≡ k)
 compared-once p q = (cc, cc)
+
+-- A column of no elements has 0 for its first.
+pub first-none : (l : List ℕ) → length l ≡ 0 → 0 ≡ getD l 0 0
+first-none [] e = refl
+first-none (x ∷ l) e = absurd (omega arith)

@@ -1,18 +1,12 @@
--- `cases::first_u8` meets its contract: a column of no elements has 0 for its first.
+-- `cases::first_u8` meets its contract.
 -- Assumes nothing.
-use Prim.Native.Nat.{_≤_}
-use mathlib.Core.Path.{sym}
-use native.Mathlib.Omega.{arith}
-use lib.ListN.{length, List·getD-eq-default}
 use borrow.Author.Needs.{needs}
+use Rattle.cases.proofs.ComparingLaws.{first-none}
 use Rattle.cases.proofs.first_u8.Statement.{statement}
 use Rattle.cases.proofs.first_u8.Tie as tie
 
 returns : tie.Need-returns
-returns c =
-    let l = c .before .args .column .now in
-    let h : length l ≤ 0 = omega (arith, c .if1 .taken) in
-    sym (List·getD-eq-default l 0 h)
+returns c = first-none (c .before .args .column .now) (c .if1 .taken)
 
 shared-slice-read-result : tie.Need-shared-slice-read-result
 shared-slice-read-result c = search needs

@@ -4,11 +4,16 @@
 use mathlib.Core.Path.{_≡_, refl, sym, ap, _∙_}
 use mathlib.Core.Bool.{Bool, true, false, cond, _&&_, _||_, and-eq-true-iff}
 use mathlib.Core.List.{List, [], _∷_}
-use Prim.Native.Nat.{ℕ, zero, suc, _<_, _≤_, min}
+use Prim.Native.Nat.{ℕ, zero, suc, _<_, _≤_}
 use native.Mathlib.Omega.{arith}
-use borrow.Author.Tests.{ltb-true, ltb-false, eqb-true, eqb-false, lt-ltb, eq-eqb, ne-eqb}
+use borrow.Author.Tests.{ltb-true, ltb-false, eqb-true, eqb-false, lt-ltb}
 use lib.Dec.{eqb, ltb}
-use Rattle.laws.specs.Rows.{Row, Given, first, rise, sooner, among, merged}
+use Rattle.laws.specs.Rows.{Row, Given, first, sooner}
+
+-- each row's number is above the one before it, and the first one's above k
+abbrev pub rise : ℕ → List Row → Bool
+rise k [] = true
+rise k (Given n t ∷ rows) = ltb k n && rise n rows
 
 -- the row of the number n says t
 pub data Has : List Row → ℕ → Bool → Type 0 where
@@ -71,6 +76,16 @@ sooner-right (suc a) zero p h = absurd (omega arith)
 sooner-right (suc a) (suc b) p h = omega arith
 
 -- ---- the rows of two tables
+-- the rows with one more, in its place by number; where its number is there already, either test makes it apply
+abbrev pub among : ℕ → Bool → List Row → List Row
+among k t [] = Given k t ∷ []
+among k t (Given n u ∷ rows) = cond (ltb k n) (Given k t ∷ Given n u ∷ rows) (cond (eqb k n) (Given n (t || u) ∷ rows) (Given n u ∷ among k t rows))
+
+-- the rows of two tables
+abbrev pub merged : List Row → List Row → List Row
+merged [] rows = rows
+merged (Given k t ∷ more) rows = among k t (merged more rows)
+
 rise-made : (k n : ℕ) (rows : List Row) → k < n → rise n rows ≡ true → (ltb k n && rise n rows) ≡ true
 rise-made k n rows h r = simp (lt-ltb k n h, r)
 
@@ -144,7 +159,8 @@ rise-merged j (Given k t ∷ more) rows r s =
     let q = rise-parts j k more r in
     rise-among j k t (merged more rows) (q .0) (rise-merged j more rows (rise-lower j k more (omega arith) (q .1)) s)
 
--- the smaller of what two tables give is what their rows give together
+-- the smaller of what two tables give is what their rows give together. So a call whose code joins its tests by `sooner` states one table:
+-- its proof rewrites with what each test ensures, then with this law for each `sooner`, `refl` for the order of the rows
 pub sooner-first : (more rows : List Row) → rise 0 more ≡ true → rise 0 rows ≡ true → sooner (first more) (first rows) ≡ first (merged more rows)
 sooner-first [] rows r s = refl
 sooner-first (Given k t ∷ more) rows r s =

@@ -1,7 +1,6 @@
 -- A verdict is known by its number, so that a statement which fixes the number fixes the answer.
 -- Assumes nothing.
 use mathlib.Core.Path.{_≡_, refl, sym, ap, _∙_}
-use mathlib.Core.Bool.{cond}
 use mathlib.Core.List.{List, [], _∷_}
 use Prim.Native.Nat.{ℕ}
 use Rattle.refusals.specs.declared.Refusal.the-variants.{Uneven, TooLong, OutOfRange, Place, Offset, Stretched, NoLookup, NoRoom}

@@ -8,7 +8,11 @@ use borrow.Author.Tests.{ltb-true}
 use lib.Dec.{ltb}
 use Rattle.tallies.specs.declared.Tally.{Tally}
 use Rattle.tallies.specs.declared.Outcome.{Outcome}
-use Rattle.tallies.specs.Counting.{isCase, last, up, counted, goesOn, ahead}
+use Rattle.tallies.specs.Counting.{isCase, last, up, counted, goesOn}
+
+-- How many more cases can be counted.
+abbrev pub ahead : Tally → ℕ
+ahead t = last - t .cases
 
 -- One more that can be counted leaves fewer.
 up-ahead : (b : Bool) (n : ℕ) → (b && ltb n last) ≡ true → last - up b n < last - n

@@ -6,9 +6,8 @@
 --   up       one more
 --   counted  the tally with one more case
 --   goesOn   whether there is a case to count
---   ahead    how many more cases can be counted
 -- Assumes nothing.
-use Prim.Native.Nat.{ℕ, _+_, _-_}
+use Prim.Native.Nat.{ℕ, _+_}
 use mathlib.Core.Bool.{Bool, true, false, cond, _&&_}
 use lib.Dec.{ltb}
 use Rattle.tallies.specs.declared.Outcome.{Outcome}
@@ -49,7 +48,3 @@ counted t what = record { cases = up (isCase what) (t .cases); differ = up (isOf
 -- Whether this is a case, and can be counted.
 abbrev pub goesOn : Tally → Outcome → Bool
 goesOn t what = isCase what && ltb (t .cases) last
-
--- How many more cases can be counted.
-abbrev pub ahead : Tally → ℕ
-ahead t = last - t .cases

@@ -1,8 +1,7 @@
 -- `replay_types::main` is safe and ends: each case that is counted leaves fewer that can be.
 -- Assumes nothing.
 use borrow.Author.Needs.{needs}
-use Rattle.tallies.specs.Counting.{ahead}
-use Rattle.tallies.proofs.TallyLaws.{counted-ahead}
+use Rattle.tallies.proofs.TallyLaws.{ahead, counted-ahead}
 use Rattle.replay_types.proofs.main.Statement.{statement}
 use Rattle.replay_types.proofs.main.Tie as tie
 

@@ -124,14 +124,6 @@ module _ {body : List ℕ} {w n from : ℕ} where
   pub passed-none : {l : List ℕ} → from + n * w ≤ length body → Passed body w n from l from 0
   passed-none h = record { left = n; counted = omega arith; inside = h; so = refl }
 
-  -- While there is one more, it lies in the body.
-  pub passed-inside : {l : List ℕ} {k i : ℕ} → i < n → Passed body w n from l k i → k + w ≤ length body
-  passed-inside {k = k} {i = i} h p = go (p .left) (p .counted) (p .inside)
-    where
-      go : (left : ℕ) → n ≡ i + left → k + left * w ≤ length body → k + w ≤ length body
-      go zero c f = absurd (omega arith)
-      go (suc r) c f = omega (arith, suc-mul r w)
-
   -- One more is passed, where it is the next of a list that begins as l does.
   pub passed-more : {l m : List ℕ} {k i x : ℕ} → i < n → x ≡ numberAt body w k → take (i + 1) m ≡ take i l ++ (x ∷ [])
       → Passed body w n from l k i → Passed body w n from m (k + w) (i + 1)

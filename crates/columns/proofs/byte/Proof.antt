@@ -1,10 +1,10 @@
 -- `columns::byte` meets its contract.
 -- Assumes nothing.
-use lib.ListN.{length, List·getD-eq-default}
-use native.Mathlib.Omega.{arith}
 use mathlib.Core.Path.{refl, sym}
-use Prim.Native.Nat.{_+_, _≤_}
+use Prim.Native.Nat.{_+_, _≤_, _<_}
+use native.Mathlib.Omega.{arith}
 use borrow.Author.Needs.{needs}
+use lib.ListN.{length, getD, List·getD-eq-default}
 use Rattle.columns.proofs.byte.Statement.{statement}
 use Rattle.columns.proofs.byte.Tie as tie
 
@@ -17,11 +17,17 @@ add-result c = search needs
 shared-slice-read-result : tie.Need-shared-slice-read-result
 shared-slice-read-result c = search needs
 
+-- an element of a slice of bytes
+small : (c : tie.After-shared-slice-known2) → let a = c .before .before .before .before .args in getD (a .bytes .now) (a .at + a .i) 0 < 256
+small c =
+    let a = c .before .before .before .before .args in
+    omega (arith, c .shared-slice-known2 .given (a .at + a .i))
+
 cast-result : tie.Need-cast-result
-cast-result c = omega (arith, c .shared-slice-known2 .given (c .before .before .before .before .args .at + c .before .before .before .before .args .i))
+cast-result c = omega (arith, small c)
 
 returns : tie.Need-returns
-returns c = (refl, omega (arith, c .shared-slice-known2 .given (c .before .before .before .before .args .at + c .before .before .before .before .args .i)))
+returns c = (refl, small c)
 
 returns-2 : tie.Need-returns-2
 returns-2 c =

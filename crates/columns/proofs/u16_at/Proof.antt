@@ -1,8 +1,8 @@
 -- `columns::u16_at` meets its contract: two bytes, one behind the other.
 -- Assumes nothing.
-use Rattle.columns.specs.Form.{numberAt}
 use native.Mathlib.Omega.{arith}
 use borrow.Author.Needs.{needs}
+use Rattle.columns.specs.Form.{numberAt}
 use Rattle.columns.proofs.u16_at.Statement.{statement}
 use Rattle.columns.proofs.u16_at.Tie as tie
 

@@ -1,8 +1,8 @@
 -- `columns::u32_at` meets its contract: four bytes, one behind the other.
 -- Assumes nothing.
-use Rattle.columns.specs.Form.{numberAt}
 use native.Mathlib.Omega.{arith}
 use borrow.Author.Needs.{needs}
+use Rattle.columns.specs.Form.{numberAt}
 use Rattle.columns.proofs.u32_at.Statement.{statement}
 use Rattle.columns.proofs.u32_at.Tie as tie
 

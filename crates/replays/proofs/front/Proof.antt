@@ -1,8 +1,7 @@
 -- `replays::front` meets its contract: fewer bytes than are asked for are all of them.
 -- Assumes nothing.
-use native.Mathlib.Nat.{le-of-lt}
 use mathlib.Core.Path.{sym}
-use native.Mathlib.Nat.{sub-zero}
+use native.Mathlib.Nat.{le-of-lt, sub-zero}
 use lib.Seq.{take-all}
 use borrow.Author.Needs.{needs}
 use Rattle.replays.proofs.front.Statement.{statement}

@@ -1,0 +1,3 @@
+-- What the contracts of `joining` cite.
+-- Assumes nothing.
+pub mod Letters

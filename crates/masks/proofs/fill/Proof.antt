@@ -51,7 +51,7 @@ loop-again c =
     let a = s .before .before .before .before .before .args in (
       search needs,
       simp length-set (l .inv .1),
-      l .inv .2 ∙ masks-turn (a .features .now) (a .base .now) (a .actions .now) (l .masks) (l .i) (search needs) (l .inv .1) _ (c .mask-of .ensures) (s .loop-test .taken),
+      l .inv .2 ∙ masks-turn (a .features .now) (a .base .now) (a .actions .now) (l .masks) (l .i) (search needs) (l .inv .1) _ (c .mask-of .ensures) (search needs),
     )
 
 same-length : tie.Need-same-length Inv-loop μ-loop
@@ -61,7 +61,7 @@ returns : tie.Need-returns Inv-loop μ-loop
 returns c =
     let l = c .before .loop in
     let a = c .before .before .before .before .before .args in
-    sym (l .inv .2 ∙ masks-end (a .features .now) (a .base .now) (a .actions .now) (l .masks) (l .i) (search needs) (l .inv .1) (c .loop-test .left))
+    sym (l .inv .2 ∙ masks-end (a .features .now) (a .base .now) (a .actions .now) (l .masks) (l .i) (search needs) (l .inv .1) (search needs))
 
 pub fill-spec : {M : Type 1} → statement M
 fill-spec =

@@ -57,7 +57,7 @@ loop-again c =
     let cs = s .before .before .before .before .before .args .codes .now in (
       search needs,
       simp length-set (l .inv .1),
-      l .inv .2 ∙ settled-takes cs (l .actions) (l .i) (l .inv .1) (sym (c .before .before .is-selector .ensures) ∙ c .before .if1 .taken) (s .before .loop-test .taken),
+      l .inv .2 ∙ settled-takes cs (l .actions) (l .i) (l .inv .1) (sym (c .before .before .is-selector .ensures) ∙ c .before .if1 .taken) (search needs),
     )
 
 add-i-2 : tie.Need-add-i-2 Inv-loop μ-loop
@@ -73,7 +73,7 @@ loop-again-2 c =
     let cs = s .before .before .before .before .before .args .codes .now in (
       search needs,
       l .inv .1,
-      l .inv .2 ∙ settled-keeps cs (l .actions) (l .i) (l .inv .1) (sym (c .before .is-selector .ensures) ∙ c .if1 .left) (s .before .loop-test .taken),
+      l .inv .2 ∙ settled-keeps cs (l .actions) (l .i) (l .inv .1) (sym (c .before .is-selector .ensures) ∙ c .if1 .left) (search needs),
     )
 
 same-length : tie.Need-same-length Inv-loop μ-loop
@@ -83,7 +83,7 @@ returns : tie.Need-returns Inv-loop μ-loop
 returns c =
     let l = c .before .loop in
     let cs = c .before .before .before .before .args .codes .now in
-    sym (l .inv .2 ∙ settled-ends cs (l .actions) (l .i) (l .inv .1) (c .loop-test .left))
+    sym (l .inv .2 ∙ settled-ends cs (l .actions) (l .i) (l .inv .1) (search needs))
 
 pub mongolian-variation-selectors-spec : {M : Type 1} → statement M
 mongolian-variation-selectors-spec =

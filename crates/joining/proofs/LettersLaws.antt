@@ -10,9 +10,9 @@ use Rattle.letters.specs.Types.{T, U, X, resolved}
 use Rattle.letters.proofs.LetterLaws.{resolved-below}
 use Rattle.shapes.specs.Joining.{nearest, lineTypes}
 use Rattle.shapes.proofs.JoiningLaws.{lineTypes-next, lineTypes-end, nearest-below}
-use Rattle.joining.specs.Letters.{Letters}
+use Rattle.joining.specs.Joinable.{Joinable}
 
-module _ {ts cs : List ℕ} (letters : Letters ts cs) where
+module _ {ts cs : List ℕ} (letters : Joinable ts cs) where
   -- the nearest letter of a context
   pub context-below : nearest (lineTypes ts cs) U < T
   context-below = nearest-below ts cs (letters .small)

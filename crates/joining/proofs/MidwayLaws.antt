@@ -19,7 +19,7 @@ use Rattle.shapes.specs.Joining.{form, nearest, eachBetween, lineTypes}
 use Rattle.shapes.specs.Machine.{stateOf, revised, Meant, entryAt, Table}
 use Rattle.shapes.proofs.JoiningLaws.{form-transparent, length-lineTypes}
 use Rattle.shapes.proofs.MachineLaws.{state-below}
-use Rattle.joining.specs.Letters.{Letters}
+use Rattle.joining.specs.Joinable.{Joinable}
 use Rattle.joining.proofs.LettersLaws.{letter-below, letter-next}
 
 -- the walk of the letters ts between b and a, at place i, with out written so far
@@ -102,7 +102,7 @@ begin-state = refl
 -- of the columns that the walk reads, by its table
 pub record Walking (table : List (List Entry)) (ts cs : List ℕ) (b a : ℕ) (out : List ℕ) (s prev i : ℕ) : Type 0 where
   pub meant : Table table
-  pub letters : Letters ts cs
+  pub letters : Joinable ts cs
   pub after-below : a < T
   pub within : i ≤ length ts
   pub even : length out ≡ length ts
@@ -110,7 +110,7 @@ pub record Walking (table : List (List Entry)) (ts cs : List ℕ) (b a : ℕ) (o
   pub midway : Midway (lineTypes ts cs) b a out s prev i
 
 pub begins :
-    {table : List (List Entry)} {ts cs : List ℕ} → Table table → Letters ts cs → (b a : ℕ) (out : List ℕ) → b < T → a < T → length out ≡ length ts
+    {table : List (List Entry)} {ts cs : List ℕ} → Table table → Joinable ts cs → (b a : ℕ) (out : List ℕ) → b < T → a < T → length out ≡ length ts
     → Walking table ts cs b a out (entryAt table 0 b .2) (length ts) 0
 begins {table} {ts} {cs} meant letters b a out hb ha l =
     let n = length-lineTypes ts cs (letters .even) in

@@ -7,7 +7,7 @@ ghost use lib.ListN.{length, getD, set};
 ghost use Rattle.letters.specs.Types.{U, resolved};
 ghost use Rattle.letters.specs.Actions.{none};
 ghost use Rattle.shapes.specs.Joining.{nearest, lineTypes, actionsOf};
-ghost use Rattle.joining.specs.Letters.{Letters};
+ghost use Rattle.joining.specs.Joinable.{Joinable};
 use letters::Action;
 use letters::Category;
 use letters::JoiningType;
@@ -23,7 +23,7 @@ fn type_at(types: &[u8], cats: &[u8], i: usize) -> u8
 
 // The first letter of a context that is not transparent, or U.
 fn first_letter(types: &[u8], cats: &[u8]) -> u8
-    requires { ⌜ Letters (now types) (now cats) ⌝ }
+    requires { ⌜ Joinable (now types) (now cats) ⌝ }
     ensures { λ r. ⌜ r ≡ nearest (lineTypes (now (types .entry)) (now (cats .entry))) U ⌝ }
 {
     let mut i = 0;
@@ -59,9 +59,9 @@ pub fn arabic_joining(
     post_cats: &[u8],
     actions: &mut [u8],
 )
-    requires { ⌜ Letters (now types) (now cats) ⌝ }
-    requires { ⌜ Letters (now «pre_types») (now «pre_cats») ⌝ }
-    requires { ⌜ Letters (now «post_types») (now «post_cats») ⌝ }
+    requires { ⌜ Joinable (now types) (now cats) ⌝ }
+    requires { ⌜ Joinable (now «pre_types») (now «pre_cats») ⌝ }
+    requires { ⌜ Joinable (now «post_types») (now «post_cats») ⌝ }
     requires { ⌜ length (now actions) ≡ length (now types) ⌝ }
     ensures { λ _. ⌜ now (actions .exit) ≡ actionsOf (lineTypes (now («pre_types» .entry)) (now («pre_cats» .entry))) (lineTypes (now (types .entry)) (now (cats .entry))) (lineTypes (now («post_types» .entry)) (now («post_cats» .entry))) ⌝ }
 {

@@ -3,8 +3,9 @@
 use mathlib.Core.Path.{_≡_, refl, sym, ap, _∙_}
 use mathlib.Core.Bool.{Bool, true, false, cond}
 use mathlib.Core.List.{List, [], _∷_, _++_}
+use mathlib.Core.Logic.{⊎-elim}
 use Prim.Native.Nat.{ℕ, zero, suc, _+_, _<_, _≤_}
-use native.Mathlib.Nat.{le-of-suc-le-suc}
+use native.Mathlib.Nat.{le-of-suc-le-suc, eq-or-lt-of-le}
 use native.Mathlib.Omega.{arith}
 use lib.ListN.{length, getD, take, drop, set, length-drop, length-set, take-append-drop}
 use lib.Seq.{take-set-le, drop-set-lt, getD-set-same, set-getD}
@@ -41,11 +42,11 @@ module _ (cs acts : List ℕ) (i : ℕ) (e : length cs ≡ length acts) where
   pub settled-ends : length cs ≤ i + 1 → take i acts ++ settled (drop i cs) (drop i acts) ≡ acts
   settled-ends h = ap (λ (l : List ℕ). take i acts ++ l) (settled-short (drop i cs) (drop i acts) (simp length-drop (omega arith))) ∙ take-append-drop i acts
     where
-      settled-short : (ds as′ : List ℕ) → length ds ≤ 1 → settled ds as′ ≡ as′
-      settled-short [] as′ l = refl
+      settled-short : (ds bs : List ℕ) → length ds ≤ 1 → settled ds bs ≡ bs
+      settled-short [] bs l = refl
       settled-short (d ∷ []) [] l = refl
-      settled-short (d ∷ []) (a ∷ as′) l = refl
-      settled-short (d ∷ (f ∷ ds)) as′ l = absurd (omega arith)
+      settled-short (d ∷ []) (a ∷ bs) l = refl
+      settled-short (d ∷ (f ∷ ds)) bs l = absurd (omega arith)
 
 -- ---- places
 -- a record but the first, and the one before it
@@ -97,6 +98,28 @@ base-reaches cs (suc k) = go (selector (getD cs (suc k) 0)) (base-reaches cs k)
     go : (s : Bool) → base cs k ≤ k → cond s (base cs k) (suc k) ≤ suc k
     go true ih = omega arith
     go false ih = omega arith
+
+-- behind it, up to k, stand selectors only
+pub base-run : (cs : List ℕ) (k j : ℕ) → base cs k ≤ j → suc j ≤ k → selector (getD cs (suc j) 0) ≡ true
+base-run cs zero j l h = absurd (omega arith)
+base-run cs (suc k) j l h = go (selector (getD cs (suc k) 0)) refl l (base-run cs k j)
+  where
+    go :
+        (s : Bool) → selector (getD cs (suc k) 0) ≡ s → cond s (base cs k) (suc k) ≤ j
+        → (base cs k ≤ j → suc j ≤ k → selector (getD cs (suc j) 0) ≡ true) → selector (getD cs (suc j) 0) ≡ true
+    go true e l ih = ⊎-elim (λ q. rw q e) (λ m. ih l (le-of-suc-le-suc m)) (eq-or-lt-of-le h)
+    go false e l ih = absurd (omega arith)
+
+-- and it is none itself, unless it is the first
+pub base-stops : (cs : List ℕ) (k : ℕ) → 0 < base cs k → selector (getD cs (base cs k) 0) ≡ false
+base-stops cs zero l = absurd (omega arith)
+base-stops cs (suc k) l = go (selector (getD cs (suc k) 0)) refl l (base-stops cs k)
+  where
+    go :
+        (s : Bool) → selector (getD cs (suc k) 0) ≡ s → 0 < cond s (base cs k) (suc k)
+        → (0 < base cs k → selector (getD cs (base cs k) 0) ≡ false) → selector (getD cs (cond s (base cs k) (suc k)) 0) ≡ false
+    go true e l ih = ih l
+    go false e l ih = e
 
 pub settled-at : (cs acts : List ℕ) (k : ℕ) → k < length acts → getD (settled cs acts) k 0 ≡ getD acts (base cs k) 0
 settled-at cs acts zero h = settled-first cs acts

@@ -1,11 +1,12 @@
 -- What is known of a line that is not refused (`accepted`), what the call leaves where it is refused and where it is not, and that the
 -- statement of a call on a line allows one answer and one line (`same-left`).
 -- Assumes nothing.
-use mathlib.Core.Path.{_≡_, sym, ap, _∙_}
-use mathlib.Core.Bool.{Bool, true, false, not, _&&_, and-eq-true-iff}
+use mathlib.Core.Path.{_≡_, refl, sym, ap, _∙_}
+use mathlib.Core.Bool.{Bool, true, false, cond, not, _&&_, and-eq-true-iff}
 use mathlib.Core.List.{List, [], _∷_}
 use Prim.Native.Nat.{ℕ}
-use borrow.Author.Tests.{eqb-true, eq-eqb, ne-eqb, not-false}
+use borrow.Author.Tests.{eqb-true, eqb-false, eq-eqb, ne-eqb, not-false}
+use lib.Dec.{eqb}
 use lib.ListN.{length}
 use Rattle.laws.specs.Rows.{Given}
 use Rattle.laws.proofs.RowLaws.{first-none}
@@ -93,3 +94,23 @@ pub same-left : (r q : Verdict) (l m : Line) (x : Left) → After (said r) l ≡
 same-left r q l m x e f =
     let g = e ∙ sym f in
     (same-said r q (ap numberLeft g), ap lineLeft g)
+
+-- what a statement allows: a refusal with the line as it was, or the joined line
+left-cases :
+    (s : Setting) (l : Line) (n : ℕ) (m : Line) → After n m ≡ joinAfter s l → (n ≡ refusal s l) × ((n ≡ 0 → ⊥) → m ≡ l) × (n ≡ 0 → m ≡ joinedLine s l)
+left-cases s l n m = go (eqb (refusal s l) 0) refl
+  where
+    go :
+        (b : Bool) → eqb (refusal s l) 0 ≡ b → After n m ≡ cond b (After 0 (joinedLine s l)) (After (refusal s l) l)
+        → (n ≡ refusal s l) × ((n ≡ 0 → ⊥) → m ≡ l) × (n ≡ 0 → m ≡ joinedLine s l)
+    go true z e = (ap numberLeft e ∙ sym (eqb-true (refusal s l) 0 z), λ d. absurd (d (ap numberLeft e)), λ _. ap lineLeft e)
+    go false z e = (ap numberLeft e, λ _. ap lineLeft e, λ d. absurd (eqb-false (refusal s l) 0 z (sym (ap numberLeft e) ∙ d)))
+
+pub left-stays : (s : Setting) (l : Line) (r : Verdict) (m : Line) → After (said r) m ≡ joinAfter s l → (said r ≡ 0 → ⊥) → m ≡ l
+left-stays s l r m e = left-cases s l (said r) m e .1
+
+pub left-accepted :
+    (s : Setting) (l : Line) (r : Verdict) (m : Line) → After (said r) m ≡ joinAfter s l → (said r ≡ refusal s l) × (said r ≡ 0 → m ≡ joinedLine s l)
+left-accepted s l r m e =
+    let c = left-cases s l (said r) m e in
+    (c .0, c .2)

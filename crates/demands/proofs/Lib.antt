@@ -1,0 +1,4 @@
+-- Each promise, proved.
+-- Assumes nothing.
+pub mod ExamplesHold
+pub mod JoiningHolds

@@ -1,0 +1,4 @@
+-- The promises.
+-- Assumes nothing.
+pub mod Examples
+pub mod Joining

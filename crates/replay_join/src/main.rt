@@ -1,0 +1,81 @@
+// Replays cases of joined lines. Go in: mongolian u8; features u32 x7; pre types u8, pre categories u8; post types, post categories;
+// codes u32, types u8, categories u8, base masks u32; actions u8 and masks u32 before the call. Come out: number u8; actions, masks.
+use replays::Case;
+use tallies::Outcome;
+
+// Makes the call of a case and compares.
+fn replay(
+    body: &[u8],
+    codes_room: &mut [u32],
+    base_room: &mut [u32],
+    actions_room: &mut [u8],
+    masks_room: &mut [u32],
+) -> Outcome {
+    let mut at: usize = 0;
+    let mut features = [0u32; 7];
+    let mongolian = columns::view_u8(body, &mut at, 1);
+    let given = columns::take_u32(body, &mut at, &mut features).len();
+    let pre_types = columns::view_u8(body, &mut at, 80);
+    let pre_cats = columns::view_u8(body, &mut at, 80);
+    let post_types = columns::view_u8(body, &mut at, 80);
+    let post_cats = columns::view_u8(body, &mut at, 80);
+    let codes = columns::take_u32(body, &mut at, codes_room);
+    let types = columns::view_u8(body, &mut at, 4200);
+    let cats = columns::view_u8(body, &mut at, 4200);
+    let base = columns::take_u32(body, &mut at, base_room);
+    let actions = columns::take_u8(body, &mut at, actions_room);
+    let masks = columns::take_u32(body, &mut at, masks_room);
+    let verdict = lines::join_line(
+        codes,
+        types,
+        cats,
+        pre_types,
+        pre_cats,
+        post_types,
+        post_cats,
+        base,
+        features,
+        cases::first_u8(mongolian) == 1,
+        actions,
+        masks,
+    );
+    let number = cases::same_u8(body, &mut at, &[verdict.number()]);
+    let acted = cases::same_u8(body, &mut at, actions);
+    let masked = cases::same_u32(body, &mut at, masks);
+    let formed = cases::is_flag(mongolian) & ((given == 7) & (at == body.len()));
+    tallies::judged(formed, number & (acted & masked))
+}
+
+// Lends the rooms for what a call writes and for wide columns, and nothing more.
+fn lend(body: &[u8]) -> Outcome {
+    let mut codes = [0u32; 4200];
+    let mut base = [0u32; 4200];
+    let mut actions = [0u8; 4200];
+    let mut masks = [0u32; 4200];
+    replay(body, &mut codes, &mut base, &mut actions, &mut masks)
+}
+
+// Reads a case into the room lent, and replays it.
+fn read(body: &mut [u8]) -> Outcome {
+    let c = replays::next(body);
+    let Case::Body(n) = c else {
+        return replays::stopped(c);
+    };
+    lend(replays::front(body, n))
+}
+
+// One case: a line of 4,200 records before and after the call, and contexts of 80, fit with their heads.
+fn turn() -> Outcome {
+    let mut body = [0u8; 98304];
+    read(&mut body)
+}
+
+fn main() {
+    let mut tally = tallies::begin();
+    let mut what = turn();
+    while tallies::goes_on(tally, what) {
+        tally = replays::tell(tally, what);
+        what = turn();
+    }
+    replays::finish(b"replay_join", tally, what);
+}

@@ -11,7 +11,7 @@ mod frame;
 mod lines;
 
 use frame::{Cases, Draw};
-use lines::{Letter, Line, RESOLVED, SELECTORS, T, TRANSPARENT, U, X};
+use lines::{Letter, Line, NO_SELECTORS, RESOLVED, SELECTORS, T, TRANSPARENT, U, X};
 use oracle::ot::shaper::arabic::probe;
 
 const DRIVER: &str = "join";
@@ -116,11 +116,12 @@ impl Codes {
             }
         }
     }
-    /// Any letter: of each type alike, a selector, or, where they may be looked up, any code with its own category.
+    /// Any letter: of each type alike, a selector or a code beside them, or, where they may be looked up, any code with its own category.
     fn any_letter(&self, draw: &mut Draw, own: bool) -> Letter {
-        match draw.below(8) {
+        match draw.below(9) {
             0 | 1 => (draw.one_of(&SELECTORS), if draw.once_in(3) { lines::any_category(draw) } else { TRANSPARENT[0] }),
-            2 if own => {
+            2 => (draw.one_of(&NO_SELECTORS), lines::any_category(draw)),
+            3 if own => {
                 let code = if draw.once_in(2) { self.listed(draw) } else { draw.below(LAST_CODE as usize + 1) as u32 };
                 (code, probe::gc_of(code))
             }

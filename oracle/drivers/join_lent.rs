@@ -9,7 +9,7 @@ mod frame;
 mod lines;
 
 use frame::{Cases, Draw};
-use lines::{Letter, Line, RESOLVED, SELECTORS, T, X};
+use lines::{Letter, Line, NO_SELECTORS, RESOLVED, SELECTORS, T, X};
 use oracle::ot::shaper::arabic_table::LENT;
 use std::sync::atomic::Ordering;
 
@@ -57,11 +57,11 @@ fn every_line(cases: &mut Cases, draw: &mut Draw, most: usize) {
     });
 }
 
-/// Selectors of all eight types, X too: then the category decides. So do letters.
+/// Selectors, the code among them that is none, and letters have all eight types, X too: then the category decides.
 fn random(cases: &mut Cases, draw: &mut Draw, count: u64, length: fn(&mut Draw) -> usize) {
     for _ in 0..count {
-        for code in SELECTORS {
-            lend(code, draw.below(usize::from(X) + 1) as u8);
+        for code in SELECTORS[0]..=SELECTORS[3] {
+            lend(code, any_type(draw));
         }
         let length = length(draw);
         let line = lines::any_line(draw, length, any_letter, |draw| letter(draw, T));
@@ -69,12 +69,19 @@ fn random(cases: &mut Cases, draw: &mut Draw, count: u64, length: fn(&mut Draw) 
     }
 }
 
+fn any_type(draw: &mut Draw) -> u8 {
+    draw.below(usize::from(X) + 1) as u8
+}
+
 fn any_letter(draw: &mut Draw) -> Letter {
-    if draw.once_in(3) {
-        return (draw.one_of(&SELECTORS), lines::any_category(draw));
+    match draw.below(8) {
+        0 | 1 => (draw.one_of(&SELECTORS), lines::any_category(draw)),
+        2 => (draw.one_of(&NO_SELECTORS), lines::any_category(draw)),
+        _ => {
+            let t = any_type(draw);
+            letter(draw, t)
+        }
     }
-    let t = draw.below(usize::from(X) + 1) as u8;
-    letter(draw, t)
 }
 
 /// Any of the lent codes of a type.
@@ -82,7 +89,7 @@ fn letter(draw: &mut Draw, t: u8) -> Letter {
     (LENT_CODES + 16 * draw.below(0x1000) as u32 + u32::from(t), lines::any_category(draw))
 }
 
-/// The type that a selector has from now on.
-fn lend(selector: u32, t: u8) {
-    LENT[(selector - SELECTORS[0]) as usize].store(t, Ordering::Relaxed);
+/// The type that a code from the first selector to the last has from now on.
+fn lend(code: u32, t: u8) {
+    LENT[(code - SELECTORS[0]) as usize].store(t, Ordering::Relaxed);
 }

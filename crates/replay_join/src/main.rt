@@ -3,28 +3,26 @@
 use replays::Case;
 use tallies::Outcome;
 
-// Makes the call of a case and compares.
-fn replay(
-    body: &[u8],
-    codes_room: &mut [u32],
-    base_room: &mut [u32],
-    actions_room: &mut [u8],
-    masks_room: &mut [u32],
-) -> Outcome {
+// Makes the call of a case and compares. Its rooms are its own: lent ones would cost the check a third more.
+fn replay(body: &[u8]) -> Outcome {
     let mut at: usize = 0;
     let mut features = [0u32; 7];
+    let mut codes_room = [0u32; 4200];
+    let mut base_room = [0u32; 4200];
+    let mut actions_room = [0u8; 4200];
+    let mut masks_room = [0u32; 4200];
     let mongolian = columns::view_u8(body, &mut at, 1);
     let given = columns::take_u32(body, &mut at, &mut features).len();
     let pre_types = columns::view_u8(body, &mut at, 80);
     let pre_cats = columns::view_u8(body, &mut at, 80);
     let post_types = columns::view_u8(body, &mut at, 80);
     let post_cats = columns::view_u8(body, &mut at, 80);
-    let codes = columns::take_u32(body, &mut at, codes_room);
+    let codes = columns::take_u32(body, &mut at, &mut codes_room);
     let types = columns::view_u8(body, &mut at, 4200);
     let cats = columns::view_u8(body, &mut at, 4200);
-    let base = columns::take_u32(body, &mut at, base_room);
-    let actions = columns::take_u8(body, &mut at, actions_room);
-    let masks = columns::take_u32(body, &mut at, masks_room);
+    let base = columns::take_u32(body, &mut at, &mut base_room);
+    let actions = columns::take_u8(body, &mut at, &mut actions_room);
+    let masks = columns::take_u32(body, &mut at, &mut masks_room);
     let verdict = lines::join_line(
         codes,
         types,
@@ -46,28 +44,14 @@ fn replay(
     tallies::judged(formed, number & (acted & masked))
 }
 
-// Lends the rooms for what a call writes and for wide columns, and nothing more.
-fn lend(body: &[u8]) -> Outcome {
-    let mut codes = [0u32; 4200];
-    let mut base = [0u32; 4200];
-    let mut actions = [0u8; 4200];
-    let mut masks = [0u32; 4200];
-    replay(body, &mut codes, &mut base, &mut actions, &mut masks)
-}
-
-// Reads a case into the room lent, and replays it.
-fn read(body: &mut [u8]) -> Outcome {
-    let c = replays::next(body);
+// Reads a case and replays it. A line of 4,200 records before and after the call, and contexts of 80, fit with their heads.
+fn turn() -> Outcome {
+    let mut body = [0u8; 98304];
+    let c = replays::next(&mut body);
     let Case::Body(n) = c else {
         return replays::stopped(c);
     };
-    lend(replays::front(body, n))
-}
-
-// One case: a line of 4,200 records before and after the call, and contexts of 80, fit with their heads.
-fn turn() -> Outcome {
-    let mut body = [0u8; 98304];
-    read(&mut body)
+    replay(replays::front(&body, n))
 }
 
 fn main() {

@@ -22,6 +22,8 @@ pub const U: u8 = 0;
 pub const T: u8 = 6;
 pub const X: u8 = 7;
 pub const SELECTORS: [u32; 4] = [0x180B, 0x180C, 0x180D, 0x180F];
+/// codes that stand beside the selectors or between them, and are none
+pub const NO_SELECTORS: [u32; 3] = [0x180A, 0x180E, 0x1810];
 
 /// A code, and the category that it is given.
 pub type Letter = (u32, u8);

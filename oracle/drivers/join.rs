@@ -3,9 +3,8 @@
 //! Goes in: mongolian u8; features u32 x7; pre types u8, pre categories u8; post types, post categories; codes u32, types u8,
 //! categories u8, base masks u32; actions u8, masks u32 before the call. Comes out: number u8; actions u8, masks u32 after it.
 //!
-//! Always: every line of up to five letters of the seven types with every pair of contexts, of none or one letter of each type,
-//! and every line of six letters, which take the pairs in turn. With a --count of a million or more they meet every pair, too:
-//! 8.8 million cases, for a run by hand.
+//! Always: every line of up to six letters of the seven types with every pair of contexts, of none or one letter of each type: 8.8
+//! million cases.
 
 mod frame;
 mod lines;
@@ -17,8 +16,6 @@ use oracle::ot::shaper::arabic::probe;
 const DRIVER: &str = "join";
 const LAST_CODE: u32 = 0x10FFFF;
 const EVERY_LINE: usize = 6;
-const EVERY_PAIR: usize = 5;
-const BY_HAND: u64 = 1_000_000;
 /// none, or one letter of a type, on each side
 const PAIRS: usize = 8 * 8;
 /// Codes that the table does not list, whatever their script, and numbers that are no codes.
@@ -42,7 +39,7 @@ fn sample(cases: &mut Cases) {
 
 fn fresh(cases: &mut Cases, draw: &mut Draw, count: u64) {
     let codes = Codes::new();
-    every_line(cases, draw, &codes, EVERY_LINE, if count < BY_HAND { EVERY_PAIR } else { EVERY_LINE });
+    every_line(cases, draw, &codes, EVERY_LINE, EVERY_LINE);
     for _ in 0..count {
         let length = lines::any_length(draw);
         lines::write_joined(cases, &codes.any_line(draw, length, true));

@@ -1,0 +1,176 @@
+-- A line, read byte by byte: at its end its entry is held where it has the form, and else the text is of other form.
+-- Assumes nothing.
+use Prim.Native.Nat.{ℕ, zero, suc, _+_, min}
+use mathlib.Core.Bool.{Bool, true, false, cond, _&&_, _||_, and-true, false≢true}
+use mathlib.Core.List.{List, [], _∷_}
+use mathlib.Core.Path.{_≡_, refl, sym, ap, _∙_}
+use lib.Dec.{leb, eqb}
+use lib.ListN.{length, set}
+use Rattle.texts.specs.declared.State.{State}
+use Rattle.texts.specs.Form.{before, fields, digit, allDigits, value, isCode, bare, isNumber, Entry, Line, Other, Says, held, lineOf}
+use Rattle.texts.specs.Steps.{start, other, up, typed, parted, within, Held, Hold, ended, inLine}
+use Rattle.texts.proofs.FieldLaws.{runDigits, digits-other, at, field-run}
+
+-- ---- the bytes of a line, and its fields
+abbrev pub runState : State → List ℕ → State
+runState s [] = s
+runState s (b ∷ bs) = runState (within s b) bs
+
+-- Fields, with a blank between each two.
+abbrev pub runFields : State → List (List ℕ) → State
+runFields s [] = s
+runFields s (f ∷ []) = runDigits s f
+runFields s (f ∷ (g ∷ gs)) = runFields (parted (runDigits s f)) (g ∷ gs)
+
+-- Whether there is a part.
+abbrev some : List (List ℕ) → Bool
+some [] = false
+some (f ∷ fs) = true
+
+before-some : (b : ℕ) (fs : List (List ℕ)) → some (before b fs) ≡ true
+before-some b [] = refl
+before-some b (f ∷ fs) = refl
+
+fields-some : (l : List ℕ) → some (fields l) ≡ true
+fields-some [] = refl
+fields-some (b ∷ bs) = go (eqb b 32)
+  where
+    go : (t : Bool) → some (cond t ([] ∷ fields bs) (before b (fields bs))) ≡ true
+    go true = refl
+    go false = before-some b (fields bs)
+
+-- A field of no bytes, and a blank behind it.
+blank-run : (s : State) (fs : List (List ℕ)) → some fs ≡ true → runFields (parted s) fs ≡ runFields s ([] ∷ fs)
+blank-run s [] h = absurd (false≢true h)
+blank-run s (f ∷ fs) h = refl
+
+-- A byte more in front of the first field.
+digit-run : (s : State) (b : ℕ) (fs : List (List ℕ)) → runFields (typed s (digit b)) fs ≡ runFields s (before b fs)
+digit-run s b [] = refl
+digit-run s b (f ∷ []) = refl
+digit-run s b (f ∷ (g ∷ gs)) = refl
+
+pub by-fields : (s : State) (l : List ℕ) → runState s l ≡ runFields s (fields l)
+unfolding within
+by-fields s [] = refl
+by-fields s (b ∷ bs) = go (eqb b 32) refl (by-fields (within s b) bs)
+  where
+    go :
+        (t : Bool) → eqb b 32 ≡ t → runState (within s b) bs ≡ runFields (within s b) (fields bs)
+        → runState (within s b) bs ≡ runFields s (cond t ([] ∷ fields bs) (before b (fields bs)))
+    go true e ih = ih ∙ rw e (blank-run s (fields bs) (fields-some bs))
+    go false e ih = ih ∙ rw e (digit-run s b (fields bs))
+
+-- ---- what a line end makes of them
+-- What a line comes to: the entry is stored, or the text is of other form.
+abbrev pub after : Line → ℕ → List ℕ → List ℕ → List ℕ → List ℕ → Held
+after Other n c w t g = Hold other c w t g
+after (Says e) n c w t g = Hold (start (up n)) (set c n (e .code)) (set w n (e .width)) (set t n (e .type)) (set g n (e .category))
+
+-- Any function of a state, behind a test b that leaves the state s or one of other form.
+through : {A : Type 0} (f : State → A) (a b : Bool) (s : State) (x y : A) → f s ≡ cond a x y → f other ≡ y → f (cond b s other) ≡ cond (a && b) x y
+through f true true s x y p q = p
+through f false true s x y p q = p
+through f true false s x y p q = q
+through f false false s x y p q = q
+
+parted-other : parted other ≡ other
+unfolding parted
+parted-other = refl
+
+pub fields-other : (fs : List (List ℕ)) → runFields other fs ≡ other
+fields-other [] = refl
+fields-other (f ∷ []) = digits-other f
+fields-other (f ∷ (g ∷ gs)) = ap (λ (s : State). runFields s (g ∷ gs)) (ap parted (digits-other f) ∙ parted-other) ∙ fields-other (g ∷ gs)
+
+-- The states behind the code, and behind the type.
+abbrev behindCode : List ℕ → ℕ → State
+behindCode f n = record { field = 1; digits = 0; value = 0; code = value 16 f; width = length f; kind = 0; lines = n }
+
+abbrev behindType : List ℕ → List ℕ → ℕ → State
+behindType f h n = record { field = 2; digits = 0; value = 0; code = value 16 f; width = length f; kind = held h; lines = n }
+
+code-run : (f : List ℕ) (n : ℕ) → parted (runDigits (start n) f) ≡ cond (isCode f) (behindCode f n) other
+unfolding isCode parted
+code-run f n =
+    ap parted (rw and-true at (field-run 0 0 0 0 n refl f))
+    ∙ through parted (leb 4 (length f)) (leb (length f) 6 && allDigits 16 f) (at 0 0 0 0 n refl (length f) (value 16 f)) (behindCode f n) other refl refl
+
+type-run : (f h : List ℕ) (n : ℕ) → parted (runDigits (behindCode f n) h) ≡ cond (isNumber h) (behindType f h n) other
+unfolding isNumber parted
+type-run f h n =
+    ap parted (field-run 1 (value 16 f) (length f) 0 n refl h)
+    ∙ through parted (leb 1 (length h)) (leb (length h) 3 && (allDigits 10 h && bare h)) (at 1 (value 16 f) (length f) 0 n refl (length h) (value 10 h)) (behindType f h n) other refl refl
+
+module _ (n : ℕ) (c w t g : List ℕ) where
+  abbrev close : State → Held
+  close s = ended (Hold s c w t g)
+
+  category-run :
+      (f h j : List ℕ)
+      → close (runDigits (behindType f h n) j)
+      ≡ cond (isNumber j) (after (Says (record { code = value 16 f; width = length f; type = held h; category = held j })) n c w t g) (Hold other c w t g)
+  unfolding isNumber ended
+  category-run f h j =
+      ap close (field-run 2 (value 16 f) (length f) (held h) n refl j)
+      ∙ through close (leb 1 (length j)) (leb (length j) 3 && (allDigits 10 j && bare j)) (at 2 (value 16 f) (length f) (held h) n refl (length j) (value 10 j)) _ _ refl refl
+
+  after-cond : (b : Bool) (e : Entry) → cond b (after (Says e) n c w t g) (Hold other c w t g) ≡ after (cond b (Says e) Other) n c w t g
+  after-cond true e = refl
+  after-cond false e = refl
+
+  -- A line end in the code or the type.
+  unfinished : (a : Bool) (s : State) → eqb (s .field) 2 ≡ false → close (cond a s other) ≡ Hold other c w t g
+  unfolding ended
+  unfinished true s e = rw e
+  unfinished false s e = refl
+
+  in-code : (f : List ℕ) → close (runDigits (start n) f) ≡ Hold other c w t g
+  in-code f = ap close (field-run 0 0 0 0 n refl f)
+      ∙ unfinished (leb (length f) 6 && (allDigits 16 f && true)) (at 0 0 0 0 n refl (length f) (value 16 f)) refl
+
+  in-type : (f h : List ℕ) → close (runDigits (behindCode f n) h) ≡ Hold other c w t g
+  in-type f h = ap close (field-run 1 (value 16 f) (length f) 0 n refl h)
+      ∙ unfinished (leb (length h) 3 && (allDigits 10 h && bare h)) (at 1 (value 16 f) (length f) 0 n refl (length h) (value 10 h)) refl
+
+  -- A blank behind the category.
+  in-category : (f h j : List ℕ) → parted (runDigits (behindType f h n) j) ≡ other
+  unfolding parted
+  in-category f h j =
+      ap parted (field-run 2 (value 16 f) (length f) (held h) n refl j)
+      ∙ through parted false (leb (length j) 3 && (allDigits 10 j && bare j)) (at 2 (value 16 f) (length f) (held h) n refl (length j) (value 10 j)) other other refl refl
+
+  ended-other : (fs : List (List ℕ)) → close (runFields other fs) ≡ Hold other c w t g
+  unfolding ended
+  ended-other fs = ap close (fields-other fs)
+
+  pub line-run : (fs : List (List ℕ)) → close (runFields (start n) fs) ≡ after (lineOf fs) n c w t g
+  unfolding ended
+  line-run [] = refl
+  line-run (f ∷ []) = in-code f
+  line-run (f ∷ (h ∷ [])) = ap (λ (s : State). close (runDigits s h)) (code-run f n) ∙ go (isCode f)
+    where
+      go : (a : Bool) → close (runDigits (cond a (behindCode f n) other) h) ≡ Hold other c w t g
+      go true = in-type f h
+      go false = ended-other (h ∷ [])
+  line-run (f ∷ (h ∷ (j ∷ []))) = ap (λ (s : State). close (runFields s (h ∷ (j ∷ [])))) (code-run f n) ∙ go (isCode f)
+    where
+      e : Entry
+      e = record { code = value 16 f; width = length f; type = held h; category = held j }
+
+      last : (b : Bool) → close (runDigits (cond b (behindType f h n) other) j) ≡ after (cond (b && isNumber j) (Says e) Other) n c w t g
+      last true = category-run f h j ∙ after-cond (isNumber j) e
+      last false = ended-other (j ∷ [])
+
+      go : (a : Bool) → close (runFields (cond a (behindCode f n) other) (h ∷ (j ∷ []))) ≡ after (cond (a && (isNumber h && isNumber j)) (Says e) Other) n c w t g
+      go true = ap (λ (s : State). close (runDigits s j)) (type-run f h n) ∙ last (isNumber h)
+      go false = ended-other (h ∷ (j ∷ []))
+  line-run (f ∷ (h ∷ (j ∷ (x ∷ xs)))) = ap (λ (s : State). close (runFields s (h ∷ (j ∷ (x ∷ xs))))) (code-run f n) ∙ go (isCode f)
+    where
+      last : (b : Bool) → close (runFields (cond b (behindType f h n) other) (j ∷ (x ∷ xs))) ≡ Hold other c w t g
+      last true = ap (λ (s : State). close (runFields s (x ∷ xs))) (in-category f h j) ∙ ended-other (x ∷ xs)
+      last false = ended-other (j ∷ (x ∷ xs))
+
+      go : (a : Bool) → close (runFields (cond a (behindCode f n) other) (h ∷ (j ∷ (x ∷ xs)))) ≡ Hold other c w t g
+      go true = ap (λ (s : State). close (runFields s (j ∷ (x ∷ xs)))) (type-run f h n) ∙ last (isNumber h)
+      go false = ended-other (h ∷ (j ∷ (x ∷ xs)))

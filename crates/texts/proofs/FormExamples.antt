@@ -5,7 +5,8 @@ use mathlib.Core.Bool.{true, false}
 use mathlib.Core.List.{List, [], _∷_, _++_}
 use mathlib.Core.Path.{_≡_, refl}
 use Rattle.texts.specs.declared.Told.the-variants.{Unreadable, Lines}
-use Rattle.texts.specs.Form.{lines, fields, digit, isCode, isNumber, told, Close, whole}
+use Rattle.entries.specs.Form.{digit, isCode, isNumber}
+use Rattle.texts.specs.Form.{lines, told, Close, whole}
 
 -- `0628 3 7`, `064E 6 12`
 first : List ℕ

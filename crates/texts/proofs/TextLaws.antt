@@ -11,12 +11,17 @@ use lib.Dec.{leb, ltb, eqb}
 use lib.ListN.{length, set, length-set}
 use lib.Seq.{sets, set-out}
 use borrow.Author.Tests.{lt-ltb, le-ltb, ltb-true, ltb-false, ne-eqb}
-use Rattle.texts.specs.declared.State.{State}
+use Rattle.entries.specs.declared.State.{State}
 use Rattle.texts.specs.declared.Told.{Told}
 use Rattle.texts.specs.declared.Told.the-variants.{Unreadable, Lines}
-use Rattle.texts.specs.Form.{before, lines, fields, digit, Entry, Line, Other, Says, lineOf, says, readable, leading, entries, last, told, Closed, Close, whole}
-use Rattle.texts.specs.Steps.{start, other, up, follows, grown, typed, beforeType, beforeCategory, parted, within, Held, Hold, ended, inLine, stepped, readOn, finished, toldBy, closedBy, closed}
-use Rattle.texts.proofs.LineLaws.{runState, by-fields, fields-other, after, line-run}
+use Rattle.entries.specs.declared.Entry.{Entry}
+use Rattle.entries.specs.declared.Line.{Line}
+use Rattle.entries.specs.declared.Line.the-variants.{Other, Says}
+use Rattle.entries.specs.Form.{before, fields, digit, lineOf}
+use Rattle.entries.specs.Steps.{start, other, follows, grown, typed, beforeType, beforeCategory, parted, within, saidBy}
+use Rattle.texts.specs.Form.{lines, says, readable, leading, entries, last, told, Closed, Close, whole}
+use Rattle.texts.specs.Steps.{up, Held, Hold, after, ended, inLine, stepped, readOn, finished, toldBy, closedBy, closed}
+use Rattle.entries.proofs.LineLaws.{runState, outcome, line-read, state-other}
 
 -- However a text is cut.
 pub read-append : (h : Held) (a b : List ℕ) → readOn h (a ++ b) ≡ readOn (readOn h a) b
@@ -34,14 +39,12 @@ runLines h (l ∷ ls) = runLines (ended (runLine h l)) ls
 
 -- Behind a line end no line has begun.
 finished-ended : (h : Held) → finished (ended h) ≡ ended h
-unfolding finished ended
-finished-ended (Hold s c w t g) = go (eqb (s .field) 2 && leb 1 (s .digits))
+unfolding finished ended saidBy
+finished-ended (Hold s c w t g) = go (saidBy s)
   where
-    go :
-        (a : Bool)
-        → let k = cond a (Hold (start (up (s .lines))) (set c (s .lines) (s .code)) (set w (s .lines) (s .width)) (set t (s .lines) (s .kind)) (set g (s .lines) (min (s .value) 255))) (Hold other c w t g) in finished k ≡ k
-    go true = refl
-    go false = refl
+    go : (x : Line) → let k = after x (s .lines) c w t g in finished k ≡ k
+    go Other = refl
+    go (Says e) = refl
 
 -- Behind another byte one has.
 abbrev fresh : State → Bool
@@ -84,8 +87,16 @@ run-line s c w t g (b ∷ bs) = run-line (within s b) c w t g bs
 
 -- A line from its beginning to its end.
 one-line : (n : ℕ) (c w t g l : List ℕ) → ended (runLine (Hold (start n) c w t g) l) ≡ after (lineOf (fields l)) n c w t g
+unfolding ended
 one-line n c w t g l =
-    ap ended (run-line (start n) c w t g l ∙ ap (λ (s : State). Hold s c w t g) (by-fields (start n) l)) ∙ line-run n c w t g (fields l)
+    ap ended (run-line (start n) c w t g l)
+    ∙ stored (saidBy (runState (start n) l)) (runState (start n) l .lines)
+    ∙ line-read (λ (m : ℕ) (e : Entry). after (Says e) m c w t g) (Hold other c w t g) n l
+    ∙ sym (stored (lineOf (fields l)) n)
+  where
+    stored : (x : Line) (m : ℕ) → after x m c w t g ≡ outcome (λ (m : ℕ) (e : Entry). after (Says e) m c w t g) (Hold other c w t g) m x
+    stored Other m = refl
+    stored (Says e) m = refl
 
 -- ---- lines, counted and held
 -- The number that lines are counted to: the largest stays.
@@ -130,11 +141,11 @@ short-set n x y z u s =
 
 -- A text of other form stays so.
 line-other : (c w t g l : List ℕ) → ended (runLine (Hold other c w t g) l) ≡ Hold other c w t g
-unfolding ended
-line-other c w t g l = ap ended (run-line other c w t g l ∙ ap (λ (s : State). Hold s c w t g) (by-fields other l ∙ fields-other (fields l)))
+unfolding ended saidBy
+line-other c w t g l = ap ended (run-line other c w t g l ∙ ap (λ (s : State). Hold s c w t g) (state-other l))
 
 lines-other : (c w t g : List ℕ) (ls : List (List ℕ)) → runLines (Hold other c w t g) ls ≡ Hold other c w t g
-unfolding finished ended
+unfolding finished ended saidBy
 lines-other c w t g [] = refl
 lines-other c w t g (l ∷ ls) = ap (λ (h : Held). runLines h ls) (line-other c w t g l) ∙ lines-other c w t g ls
 
@@ -142,7 +153,7 @@ lines-other c w t g (l ∷ ls) = ap (λ (h : Held). runLines h ls) (line-other c
 abbrev from : ℕ → Bool → ℕ → List Entry → List ℕ → List ℕ → List ℕ → List ℕ → Closed
 from n r m es c w t g =
     Close (cond r (Lines (min m last)) Unreadable) (sets c n (map (λ (e : Entry). e .code) es)) (sets w n (map (λ (e : Entry). e .width) es))
-    (sets t n (map (λ (e : Entry). e .type) es))
+    (sets t n (map (λ (e : Entry). e .kind) es))
     (sets g n (map (λ (e : Entry). e .category) es))
 
 lines-run :
@@ -152,15 +163,15 @@ unfolding finished
 lines-run [] n c w t g s = rw add-zero
 lines-run (l ∷ ls) n c w t g s =
     ap (λ (h : Held). closedBy (runLines h ls)) (one-line (min n last) c w t g l)
-    ∙ go (lineOf (fields l)) (λ (e : Entry). lines-run ls (suc n) (set c n (e .code)) (set w n (e .width)) (set t n (e .type)) (set g n (e .category)) (short-set n (e .code) (e .width) (e .type) (e .category) s))
+    ∙ go (lineOf (fields l)) (λ (e : Entry). lines-run ls (suc n) (set c n (e .code)) (set w n (e .width)) (set t n (e .kind)) (set g n (e .category)) (short-set n (e .code) (e .width) (e .kind) (e .category) s))
   where
     go :
         (x : Line)
-        → ((e : Entry) → closedBy (runLines (Hold (start (min (suc n) last)) (set c n (e .code)) (set w n (e .width)) (set t n (e .type)) (set g n (e .category))) ls) ≡ from (suc n) (readable ls) (suc n + length ls) (entries ls) (set c n (e .code)) (set w n (e .width)) (set t n (e .type)) (set g n (e .category)))
+        → ((e : Entry) → closedBy (runLines (Hold (start (min (suc n) last)) (set c n (e .code)) (set w n (e .width)) (set t n (e .kind)) (set g n (e .category))) ls) ≡ from (suc n) (readable ls) (suc n + length ls) (entries ls) (set c n (e .code)) (set w n (e .width)) (set t n (e .kind)) (set g n (e .category)))
         → closedBy (runLines (after x (min n last) c w t g) ls) ≡ from n (says x && readable ls) (n + suc (length ls)) (leading x (entries ls)) c w t g
     go Other ih = ap closedBy (lines-other c w t g ls)
     go (Says e) ih =
-        rw (up-counts n, set-counted c n (e .code) (s .codes), set-counted w n (e .width) (s .widths), set-counted t n (e .type) (s .types), set-counted g n (e .category) (s .categories), add-suc n (length ls), ← (suc-add n (length ls)))
+        rw (up-counts n, set-counted c n (e .code) (s .codes), set-counted w n (e .width) (s .widths), set-counted t n (e .kind) (s .types), set-counted g n (e .category) (s .categories), add-suc n (length ls), ← (suc-add n (length ls)))
         (ih e)
 
 -- The whole text, in columns as slices are.
@@ -183,14 +194,11 @@ short-back n x y z u s =
 
 ended-back : (h : Held) → Shorts (ended h) → Shorts h
 unfolding ended
-ended-back (Hold s c w t g) = go (eqb (s .field) 2 && leb 1 (s .digits))
+ended-back (Hold s c w t g) = go (saidBy s)
   where
-    go :
-        (a : Bool)
-        → Shorts (cond a (Hold (start (up (s .lines))) (set c (s .lines) (s .code)) (set w (s .lines) (s .width)) (set t (s .lines) (s .kind)) (set g (s .lines) (min (s .value) 255))) (Hold other c w t g))
-        → Short c w t g
-    go true q = short-back (s .lines) (s .code) (s .width) (s .kind) (min (s .value) 255) q
-    go false q = q
+    go : (x : Line) → Shorts (after x (s .lines) c w t g) → Short c w t g
+    go Other q = q
+    go (Says e) q = short-back (s .lines) (e .code) (e .width) (e .kind) (e .category) q
 
 stepped-back : (h : Held) (b : ℕ) → Shorts (stepped h b) → Shorts h
 unfolding stepped

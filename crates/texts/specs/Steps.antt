@@ -1,102 +1,41 @@
--- The state of a reader that has read a part of a text: how each byte changes it, and what it comes to at the end of the text. What this
--- says of a whole text is the definition by lines (`whole` of Form; proofs/TextLaws), so that a user need not read it.
---   base, most              the digits of each field
---   start, other            the state before a line, and that of a text with a line of other form
+-- The state of a reader that has read a part of a text, and its columns: how each byte changes them, and what they come to at the end of the text.
+-- What this says of a whole text is the definition by lines (`whole` of Form; proofs/TextLaws), so that a user need not read it.
 --   up                      one more line
---   leads, follows          a zero that no digit may follow; whether a digit may follow
---   grown, typed            a digit
---   beforeType, beforeCategory, parted   a blank
 --   Held                    a state and the columns
---   ended, inLine, stepped  a line end, another byte, any byte
+--   after, ended            a line end
+--   inLine, stepped         another byte, any byte
 --   readOn                  some bytes
---   closed                  the end of the text
+--   finished, toldBy, closedBy, closed   the end of the text
 -- Assumes nothing.
-use Prim.Native.Nat.{ℕ, _+_, _*_, min}
-use mathlib.Core.Bool.{Bool, cond, not, _&&_}
+use Prim.Native.Nat.{ℕ, _+_}
+use mathlib.Core.Bool.{cond, _&&_}
 use mathlib.Core.List.{List, [], _∷_}
-use lib.Dec.{leb, ltb, eqb}
+use lib.Dec.{ltb, eqb}
 use lib.ListN.{set}
+use Rattle.entries.specs.declared.Line.{Line}
+use Rattle.entries.specs.declared.Line.the-variants.{Other, Says}
+use Rattle.entries.specs.declared.State.{State}
+use Rattle.entries.specs.Steps.{start, other, within, saidBy}
 use Rattle.texts.specs.declared.Told.{Told}
 use Rattle.texts.specs.declared.Told.the-variants.{Unreadable, Lines}
-use Rattle.texts.specs.declared.State.{State}
-use Rattle.texts.specs.Form.{digit, last, Closed, Close}
-
--- A field's base: 16 for the code (field 0), 10 for type (1) and category (2).
-abbrev pub base : ℕ → ℕ
-base field = cond (eqb field 0) 16 10
-
--- The most digits of a field.
-abbrev pub most : ℕ → ℕ
-most field = cond (eqb field 0) 6 3
-
--- Before a line, with n lines behind it.
-abbrev pub start : ℕ → State
-start n = record { field = 0; digits = 0; value = 0; code = 0; width = 0; kind = 0; lines = n }
-
--- Some line is of other form. What follows does not change that.
-abbrev pub other : State
-other = record { field = 3; digits = 0; value = 0; code = 0; width = 0; kind = 0; lines = 0 }
+use Rattle.texts.specs.Form.{last, Closed, Close}
 
 -- One more line; the largest number stays.
 abbrev pub up : ℕ → ℕ
 up n = cond (ltb n last) (n + 1) n
 
--- A single zero in front of type or category: no digit may follow.
-abbrev pub leads : ℕ → ℕ → ℕ → Bool
-leads field digits value = not (eqb field 0) && (eqb digits 1 && eqb value 0)
-
--- A digit d may follow (16 is none). That the value is small is so wherever the digits are few, and says that it does not wrap.
-unfoldable pub follows : State → ℕ → Bool
-follows s d =
-    ltb (s .field) 3
-    && (ltb d (base (s .field))
-    && (ltb (s .digits) (most (s .field)) && (ltb (s .value) 1048576 && not (leads (s .field) (s .digits) (s .value)))))
-
--- With a digit more.
-abbrev pub grown : State → ℕ → State
-grown s d =
-    record {
-      field = s .field;
-      digits = s .digits + 1;
-      value = s .value * base (s .field) + d;
-      code = s .code;
-      width = s .width;
-      kind = s .kind;
-      lines = s .lines;
-    }
-
--- A digit, or a byte that is none.
-unfoldable pub typed : State → ℕ → State
-typed s d = cond (follows s d) (grown s d) other
-
--- Before the type: the code is read.
-abbrev pub beforeType : State → State
-beforeType s = record { field = 1; digits = 0; value = 0; code = s .value; width = s .digits; kind = 0; lines = s .lines }
-
--- Before the category: the type is read.
-abbrev pub beforeCategory : State → State
-beforeCategory s =
-    record { field = 2; digits = 0; value = 0; code = s .code; width = s .width; kind = min (s .value) 255; lines = s .lines }
-
--- A blank: the next field begins, if the one before it has the digits that it needs.
-unfoldable pub parted : State → State
-parted s = cond (eqb (s .field) 0 && leb 4 (s .digits)) (beforeType s) (cond (eqb (s .field) 1 && leb 1 (s .digits)) (beforeCategory s) other)
-
 -- A state, and the columns lent: codes, widths, types, categories.
 pub data Held : Type 0 where
   Hold : State → (codes widths types categories : List ℕ) → Held
 
--- A line end: the entry is stored at its place, where the column has that place.
-unfoldable pub ended : Held → Held
-ended (Hold s c w t g) =
-    cond (eqb (s .field) 2 && leb 1 (s .digits))
-    (Hold (start (up (s .lines))) (set c (s .lines) (s .code)) (set w (s .lines) (s .width)) (set t (s .lines) (s .kind))
-    (set g (s .lines) (min (s .value) 255)))
-    (Hold other c w t g)
+-- A line that says an entry: it is stored at its place n, where a column has that place, and the next line begins. A line of other form: so is the text.
+abbrev pub after : Line → ℕ → List ℕ → List ℕ → List ℕ → List ℕ → Held
+after Other n c w t g = Hold other c w t g
+after (Says e) n c w t g = Hold (start (up n)) (set c n (e .code)) (set w n (e .width)) (set t n (e .kind)) (set g n (e .category))
 
--- Another byte, as the state takes it.
-unfoldable pub within : State → ℕ → State
-within s b = cond (eqb b 32) (parted s) (typed s (digit b))
+-- A line end.
+unfoldable pub ended : Held → Held
+ended (Hold s c w t g) = after (saidBy s) (s .lines) c w t g
 
 -- Another byte leaves the columns as they are.
 abbrev pub inLine : Held → ℕ → Held

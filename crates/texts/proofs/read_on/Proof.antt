@@ -5,7 +5,7 @@ use mathlib.Core.Path.{_≡_, refl, sym, ap, _∙_}
 use borrow.Author.Needs.{needs}
 use lib.ListN.{length, drop, drop-of-length-le}
 use Rattle.texts.specs.Steps.{Hold, readOn}
-use Rattle.texts.proofs.StepLaws.{read-next}
+use Rattle.texts.proofs.ReadLaws.{read-next}
 use Rattle.texts.proofs.read_on.Statement.{statement}
 use Rattle.texts.proofs.read_on.Tie as tie
 

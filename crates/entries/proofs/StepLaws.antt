@@ -2,16 +2,13 @@
 -- Assumes nothing.
 use Prim.Native.Nat.{ℕ, _+_, _*_, _≤_, _<_}
 use mathlib.Core.Bool.{Bool, true, false, cond, not, _&&_, and-eq-true-iff}
-use mathlib.Core.Path.{_≡_, refl, sym, ap, _∙_}
-use mathlib.Core.List.{List}
-use lib.ListN.{length, getD, drop}
-use Rattle.laws.proofs.LoopLaws.{drop-next}
+use mathlib.Core.Path.{_≡_}
 use native.Mathlib.Omega.{arith}
 use native.Mathlib.Nat.{mul-le-mul}
 use lib.Dec.{leb, ltb, eqb}
 use borrow.Author.Tests.{ltb-true}
-use Rattle.texts.specs.declared.State.{State}
-use Rattle.texts.specs.Steps.{base, most, leads, follows, Held, Hold, stepped, readOn}
+use Rattle.entries.specs.declared.State.{State}
+use Rattle.entries.specs.Steps.{base, most, leads, follows}
 
 pub base-few : (k : ℕ) → base k ≤ 16
 base-few k = go (eqb k 0)
@@ -51,8 +48,3 @@ follows-fits s d e =
       product = mul-le-mul {n₁ = s .value} {m₁ = base k} {n₂ = 1048575} {m₂ = 16} (omega arith) (base-few k);
       small = omega (arith, base-few k);
     }
-
--- A byte is read: what is left of the piece makes of the state behind it what it made, with the byte, of the state before it.
-pub read-next :
-    (piece : List ℕ) (i : ℕ) (h k : Held) → i < length piece → k ≡ stepped h (getD piece i 0) → readOn h (drop i piece) ≡ readOn k (drop (i + 1) piece)
-read-next piece i h k l e = ap (readOn h) (drop-next piece i 0 l) ∙ ap (λ (x : Held). readOn x (drop (i + 1) piece)) (sym e)

@@ -10,10 +10,10 @@ use native.Mathlib.Omega.{arith}
 use lib.Dec.{leb, ltb, eqb}
 use lib.ListN.{length}
 use borrow.Author.Tests.{ltb-true, ltb-false, lt-ltb, le-ltb, le-leb, lt-leb, ne-eqb}
-use Rattle.texts.specs.declared.State.{State}
-use Rattle.texts.specs.Form.{digit, allDigits, valueFrom, value, bare}
-use Rattle.texts.specs.Steps.{base, most, other, leads, follows, typed}
-use Rattle.texts.proofs.StepLaws.{base-few, most-few}
+use Rattle.entries.specs.declared.State.{State}
+use Rattle.entries.specs.Form.{digit, allDigits, valueFrom, value, bare}
+use Rattle.entries.specs.Steps.{base, most, other, leads, follows, typed}
+use Rattle.entries.proofs.StepLaws.{base-few, most-few}
 
 -- The digits of a field, one after the other.
 abbrev pub runDigits : State → List ℕ → State

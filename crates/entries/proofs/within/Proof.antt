@@ -1,10 +1,10 @@
--- `texts::within` meets its contract.
+-- `entries::within` meets its contract.
 -- Assumes nothing.
 use borrow.Author.Tests.{eq-eqb, ne-eqb}
-use Rattle.texts.specs.Steps.{within}
+use Rattle.entries.specs.Steps.{within}
 use borrow.Author.Needs.{needs}
-use Rattle.texts.proofs.within.Statement.{statement}
-use Rattle.texts.proofs.within.Tie as tie
+use Rattle.entries.proofs.within.Statement.{statement}
+use Rattle.entries.proofs.within.Tie as tie
 
 parted-requires : tie.Need-parted-requires
 parted-requires c κs = search needs

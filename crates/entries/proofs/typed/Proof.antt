@@ -1,13 +1,13 @@
--- `texts::typed` meets its contract: where a digit may follow, nothing wraps.
+-- `entries::typed` meets its contract: where a digit may follow, nothing wraps.
 -- Assumes nothing.
 use mathlib.Core.Bool.{true}
 use mathlib.Core.Path.{_≡_, sym, _∙_}
 use native.Mathlib.Omega.{arith}
-use Rattle.texts.specs.Steps.{follows, typed}
-use Rattle.texts.proofs.StepLaws.{Follows, follows-fits}
+use Rattle.entries.specs.Steps.{follows, typed}
+use Rattle.entries.proofs.StepLaws.{Follows, follows-fits}
 use borrow.Author.Needs.{needs}
-use Rattle.texts.proofs.typed.Statement.{statement}
-use Rattle.texts.proofs.typed.Tie as tie
+use Rattle.entries.proofs.typed.Statement.{statement}
+use Rattle.entries.proofs.typed.Tie as tie
 
 -- what the test says where it holds
 mayFollow : (c : tie.Then1) → let a = c .before .before .args in follows (a .s) (a .d) ≡ true

@@ -1,13 +1,13 @@
--- `texts::digit` meets its contract.
+-- `entries::digit` meets its contract.
 -- Assumes nothing.
 use mathlib.Core.Bool.{and-eq-true-iff}
 use native.Mathlib.Omega.{arith}
 use lib.Dec.{leb}
 use borrow.Author.Needs.{needs}
 use borrow.Author.Tests.{leb-true}
-use Rattle.texts.specs.Form.{digit}
-use Rattle.texts.proofs.digit.Statement.{statement}
-use Rattle.texts.proofs.digit.Tie as tie
+use Rattle.entries.specs.Form.{digit}
+use Rattle.entries.proofs.digit.Statement.{statement}
+use Rattle.entries.proofs.digit.Tie as tie
 
 sub-result : tie.Need-sub-result
 sub-result c = leb-true _ _ (and-eq-true-iff (leb 48 (c .before .args .b)) _ .0 (c .if1 .taken) .0)

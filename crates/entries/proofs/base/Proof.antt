@@ -1,8 +1,8 @@
--- `texts::base` meets its contract.
+-- `entries::base` meets its contract.
 -- Assumes nothing.
 use borrow.Author.Tests.{eq-eqb, ne-eqb}
-use Rattle.texts.proofs.base.Statement.{statement}
-use Rattle.texts.proofs.base.Tie as tie
+use Rattle.entries.proofs.base.Statement.{statement}
+use Rattle.entries.proofs.base.Tie as tie
 
 returns : tie.Need-returns
 returns c = rw (eq-eqb _ _ (c .if1 .taken))

@@ -1,9 +1,9 @@
--- `texts::follows` meets its contract.
+-- `entries::follows` meets its contract.
 -- Assumes nothing.
-use Rattle.texts.specs.Steps.{follows}
+use Rattle.entries.specs.Steps.{follows}
 use borrow.Author.Needs.{needs}
-use Rattle.texts.proofs.follows.Statement.{statement}
-use Rattle.texts.proofs.follows.Tie as tie
+use Rattle.entries.proofs.follows.Statement.{statement}
+use Rattle.entries.proofs.follows.Tie as tie
 
 base-requires : tie.Need-base-requires
 base-requires c κs = search needs

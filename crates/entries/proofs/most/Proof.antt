@@ -1,8 +1,8 @@
--- `texts::most` meets its contract.
+-- `entries::most` meets its contract.
 -- Assumes nothing.
 use borrow.Author.Tests.{eq-eqb, ne-eqb}
-use Rattle.texts.proofs.most.Statement.{statement}
-use Rattle.texts.proofs.most.Tie as tie
+use Rattle.entries.proofs.most.Statement.{statement}
+use Rattle.entries.proofs.most.Tie as tie
 
 returns : tie.Need-returns
 returns c = rw (eq-eqb _ _ (c .if1 .taken))

@@ -5,11 +5,14 @@ use mathlib.Core.Bool.{Bool, true, false, cond, _&&_, _||_, and-true, false≢tr
 use mathlib.Core.List.{List, [], _∷_}
 use mathlib.Core.Path.{_≡_, refl, sym, ap, _∙_}
 use lib.Dec.{leb, eqb}
-use lib.ListN.{length, set}
-use Rattle.texts.specs.declared.State.{State}
-use Rattle.texts.specs.Form.{before, fields, digit, allDigits, value, isCode, bare, isNumber, Entry, Line, Other, Says, held, lineOf}
-use Rattle.texts.specs.Steps.{start, other, up, typed, parted, within, Held, Hold, ended, inLine}
-use Rattle.texts.proofs.FieldLaws.{runDigits, digits-other, at, field-run}
+use lib.ListN.{length}
+use Rattle.entries.specs.declared.State.{State}
+use Rattle.entries.specs.declared.Entry.{Entry}
+use Rattle.entries.specs.declared.Line.{Line}
+use Rattle.entries.specs.declared.Line.the-variants.{Other, Says}
+use Rattle.entries.specs.Form.{before, fields, digit, allDigits, value, isCode, bare, isNumber, held, lineOf}
+use Rattle.entries.specs.Steps.{start, other, typed, parted, within, saidBy}
+use Rattle.entries.proofs.FieldLaws.{runDigits, digits-other, at, field-run}
 
 -- ---- the bytes of a line, and its fields
 abbrev pub runState : State → List ℕ → State
@@ -62,11 +65,6 @@ by-fields s (b ∷ bs) = go (eqb b 32) refl (by-fields (within s b) bs)
     go false e ih = ih ∙ rw e (digit-run s b (fields bs))
 
 -- ---- what a line end makes of them
--- What a line comes to: the entry is stored, or the text is of other form.
-abbrev pub after : Line → ℕ → List ℕ → List ℕ → List ℕ → List ℕ → Held
-after Other n c w t g = Hold other c w t g
-after (Says e) n c w t g = Hold (start (up n)) (set c n (e .code)) (set w n (e .width)) (set t n (e .type)) (set g n (e .category))
-
 -- Any function of a state, behind a test b that leaves the state s or one of other form.
 through : {A : Type 0} (f : State → A) (a b : Bool) (s : State) (x y : A) → f s ≡ cond a x y → f other ≡ y → f (cond b s other) ≡ cond (a && b) x y
 through f true true s x y p q = p
@@ -78,7 +76,7 @@ parted-other : parted other ≡ other
 unfolding parted
 parted-other = refl
 
-pub fields-other : (fs : List (List ℕ)) → runFields other fs ≡ other
+fields-other : (fs : List (List ℕ)) → runFields other fs ≡ other
 fields-other [] = refl
 fields-other (f ∷ []) = digits-other f
 fields-other (f ∷ (g ∷ gs)) = ap (λ (s : State). runFields s (g ∷ gs)) (ap parted (digits-other f) ∙ parted-other) ∙ fields-other (g ∷ gs)
@@ -102,35 +100,48 @@ type-run f h n =
     ap parted (field-run 1 (value 16 f) (length f) 0 n refl h)
     ∙ through parted (leb 1 (length h)) (leb (length h) 3 && (allDigits 10 h && bare h)) (at 1 (value 16 f) (length f) 0 n refl (length h) (value 10 h)) (behindType f h n) other refl refl
 
-module _ (n : ℕ) (c w t g : List ℕ) where
-  abbrev close : State → Held
-  close s = ended (Hold s c w t g)
+-- What a line comes to, where an entry e that stands behind n lines comes to `stored n e`, and a line of other form to `off`.
+abbrev pub outcome : {A : Type 0} → (ℕ → Entry → A) → A → ℕ → Line → A
+outcome stored off n Other = off
+outcome stored off n (Says e) = stored n e
+
+module _ {A : Type 0} (stored : ℕ → Entry → A) (off : A) (n : ℕ) where
+  abbrev pub close : State → A
+  close s = outcome stored off (s .lines) (saidBy s)
+
+  outcome-cond : (b : Bool) (m : ℕ) (e : Entry) → outcome stored off m (cond b (Says e) Other) ≡ cond b (stored m e) off
+  outcome-cond true m e = refl
+  outcome-cond false m e = refl
+
+  close-other : close other ≡ off
+  unfolding saidBy
+  close-other = refl
 
   category-run :
       (f h j : List ℕ)
       → close (runDigits (behindType f h n) j)
-      ≡ cond (isNumber j) (after (Says (record { code = value 16 f; width = length f; type = held h; category = held j })) n c w t g) (Hold other c w t g)
-  unfolding isNumber ended
+      ≡ cond (isNumber j) (stored n (record { code = value 16 f; width = length f; kind = held h; category = held j })) off
+  unfolding isNumber saidBy
   category-run f h j =
       ap close (field-run 2 (value 16 f) (length f) (held h) n refl j)
-      ∙ through close (leb 1 (length j)) (leb (length j) 3 && (allDigits 10 j && bare j)) (at 2 (value 16 f) (length f) (held h) n refl (length j) (value 10 j)) _ _ refl refl
-
-  after-cond : (b : Bool) (e : Entry) → cond b (after (Says e) n c w t g) (Hold other c w t g) ≡ after (cond b (Says e) Other) n c w t g
-  after-cond true e = refl
-  after-cond false e = refl
+      ∙ through close (leb 1 (length j)) (leb (length j) 3 && (allDigits 10 j && bare j)) (at 2 (value 16 f) (length f) (held h) n refl (length j) (value 10 j)) _ _
+      (outcome-cond (leb 1 (length j)) n _)
+      refl
 
   -- A line end in the code or the type.
-  unfinished : (a : Bool) (s : State) → eqb (s .field) 2 ≡ false → close (cond a s other) ≡ Hold other c w t g
-  unfolding ended
+  unfinished : (a : Bool) (s : State) → eqb (s .field) 2 ≡ false → close (cond a s other) ≡ off
+  unfolding saidBy
   unfinished true s e = rw e
   unfinished false s e = refl
 
-  in-code : (f : List ℕ) → close (runDigits (start n) f) ≡ Hold other c w t g
-  in-code f = ap close (field-run 0 0 0 0 n refl f)
+  in-code : (f : List ℕ) → close (runDigits (start n) f) ≡ off
+  in-code f =
+      ap close (field-run 0 0 0 0 n refl f)
       ∙ unfinished (leb (length f) 6 && (allDigits 16 f && true)) (at 0 0 0 0 n refl (length f) (value 16 f)) refl
 
-  in-type : (f h : List ℕ) → close (runDigits (behindCode f n) h) ≡ Hold other c w t g
-  in-type f h = ap close (field-run 1 (value 16 f) (length f) 0 n refl h)
+  in-type : (f h : List ℕ) → close (runDigits (behindCode f n) h) ≡ off
+  in-type f h =
+      ap close (field-run 1 (value 16 f) (length f) 0 n refl h)
       ∙ unfinished (leb (length h) 3 && (allDigits 10 h && bare h)) (at 1 (value 16 f) (length f) 0 n refl (length h) (value 10 h)) refl
 
   -- A blank behind the category.
@@ -140,37 +151,43 @@ module _ (n : ℕ) (c w t g : List ℕ) where
       ap parted (field-run 2 (value 16 f) (length f) (held h) n refl j)
       ∙ through parted false (leb (length j) 3 && (allDigits 10 j && bare j)) (at 2 (value 16 f) (length f) (held h) n refl (length j) (value 10 j)) other other refl refl
 
-  ended-other : (fs : List (List ℕ)) → close (runFields other fs) ≡ Hold other c w t g
-  unfolding ended
-  ended-other fs = ap close (fields-other fs)
+  ended-other : (fs : List (List ℕ)) → close (runFields other fs) ≡ off
+  ended-other fs = ap close (fields-other fs) ∙ close-other
 
-  pub line-run : (fs : List (List ℕ)) → close (runFields (start n) fs) ≡ after (lineOf fs) n c w t g
-  unfolding ended
-  line-run [] = refl
+  pub line-run : (fs : List (List ℕ)) → close (runFields (start n) fs) ≡ outcome stored off n (lineOf fs)
+  line-run [] = unfinished true (start n) refl
   line-run (f ∷ []) = in-code f
   line-run (f ∷ (h ∷ [])) = ap (λ (s : State). close (runDigits s h)) (code-run f n) ∙ go (isCode f)
     where
-      go : (a : Bool) → close (runDigits (cond a (behindCode f n) other) h) ≡ Hold other c w t g
+      go : (a : Bool) → close (runDigits (cond a (behindCode f n) other) h) ≡ off
       go true = in-type f h
       go false = ended-other (h ∷ [])
   line-run (f ∷ (h ∷ (j ∷ []))) = ap (λ (s : State). close (runFields s (h ∷ (j ∷ [])))) (code-run f n) ∙ go (isCode f)
     where
       e : Entry
-      e = record { code = value 16 f; width = length f; type = held h; category = held j }
+      e = record { code = value 16 f; width = length f; kind = held h; category = held j }
 
-      last : (b : Bool) → close (runDigits (cond b (behindType f h n) other) j) ≡ after (cond (b && isNumber j) (Says e) Other) n c w t g
-      last true = category-run f h j ∙ after-cond (isNumber j) e
+      last : (b : Bool) → close (runDigits (cond b (behindType f h n) other) j) ≡ outcome stored off n (cond (b && isNumber j) (Says e) Other)
+      last true = category-run f h j ∙ sym (outcome-cond (isNumber j) n e)
       last false = ended-other (j ∷ [])
 
-      go : (a : Bool) → close (runFields (cond a (behindCode f n) other) (h ∷ (j ∷ []))) ≡ after (cond (a && (isNumber h && isNumber j)) (Says e) Other) n c w t g
+      go : (a : Bool) → close (runFields (cond a (behindCode f n) other) (h ∷ (j ∷ []))) ≡ outcome stored off n (cond (a && (isNumber h && isNumber j)) (Says e) Other)
       go true = ap (λ (s : State). close (runDigits s j)) (type-run f h n) ∙ last (isNumber h)
       go false = ended-other (h ∷ (j ∷ []))
   line-run (f ∷ (h ∷ (j ∷ (x ∷ xs)))) = ap (λ (s : State). close (runFields s (h ∷ (j ∷ (x ∷ xs))))) (code-run f n) ∙ go (isCode f)
     where
-      last : (b : Bool) → close (runFields (cond b (behindType f h n) other) (j ∷ (x ∷ xs))) ≡ Hold other c w t g
+      last : (b : Bool) → close (runFields (cond b (behindType f h n) other) (j ∷ (x ∷ xs))) ≡ off
       last true = ap (λ (s : State). close (runFields s (x ∷ xs))) (in-category f h j) ∙ ended-other (x ∷ xs)
       last false = ended-other (j ∷ (x ∷ xs))
 
-      go : (a : Bool) → close (runFields (cond a (behindCode f n) other) (h ∷ (j ∷ (x ∷ xs)))) ≡ Hold other c w t g
+      go : (a : Bool) → close (runFields (cond a (behindCode f n) other) (h ∷ (j ∷ (x ∷ xs)))) ≡ off
       go true = ap (λ (s : State). close (runFields s (j ∷ (x ∷ xs)))) (type-run f h n) ∙ last (isNumber h)
       go false = ended-other (h ∷ (j ∷ (x ∷ xs)))
+
+  -- A line from its beginning to its end comes to what the definition says of it.
+  pub line-read : (l : List ℕ) → close (runState (start n) l) ≡ outcome stored off n (lineOf (fields l))
+  line-read l = ap close (by-fields (start n) l) ∙ line-run (fields l)
+
+-- A text of other form stays so.
+pub state-other : (l : List ℕ) → runState other l ≡ other
+state-other l = by-fields other l ∙ fields-other (fields l)

@@ -1,9 +1,9 @@
--- `texts::parted` meets its contract, a case of `parted` a path.
+-- `entries::parted` meets its contract, a case of `parted` a path.
 -- Assumes nothing.
 use borrow.Author.Needs.{needs}
-use Rattle.texts.specs.Steps.{parted}
-use Rattle.texts.proofs.parted.Statement.{statement}
-use Rattle.texts.proofs.parted.Tie as tie
+use Rattle.entries.specs.Steps.{parted}
+use Rattle.entries.proofs.parted.Statement.{statement}
+use Rattle.entries.proofs.parted.Tie as tie
 
 returns : tie.Need-returns
 unfolding parted

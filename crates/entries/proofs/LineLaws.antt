@@ -11,14 +11,10 @@ use Rattle.entries.specs.declared.Entry.{Entry}
 use Rattle.entries.specs.declared.Line.{Line}
 use Rattle.entries.specs.declared.Line.the-variants.{Other, Says}
 use Rattle.entries.specs.Form.{before, fields, digit, allDigits, value, isCode, bare, isNumber, held, lineOf}
-use Rattle.entries.specs.Steps.{start, other, typed, parted, within, saidBy}
+use Rattle.entries.specs.Steps.{start, other, typed, parted, within, readIn, saidBy}
 use Rattle.entries.proofs.FieldLaws.{runDigits, digits-other, at, field-run}
 
 -- ---- the bytes of a line, and its fields
-abbrev pub runState : State → List ℕ → State
-runState s [] = s
-runState s (b ∷ bs) = runState (within s b) bs
-
 -- Fields, with a blank between each two.
 abbrev pub runFields : State → List (List ℕ) → State
 runFields s [] = s
@@ -53,14 +49,14 @@ digit-run s b [] = refl
 digit-run s b (f ∷ []) = refl
 digit-run s b (f ∷ (g ∷ gs)) = refl
 
-pub by-fields : (s : State) (l : List ℕ) → runState s l ≡ runFields s (fields l)
+pub by-fields : (s : State) (l : List ℕ) → readIn s l ≡ runFields s (fields l)
 unfolding within
 by-fields s [] = refl
 by-fields s (b ∷ bs) = go (eqb b 32) refl (by-fields (within s b) bs)
   where
     go :
-        (t : Bool) → eqb b 32 ≡ t → runState (within s b) bs ≡ runFields (within s b) (fields bs)
-        → runState (within s b) bs ≡ runFields s (cond t ([] ∷ fields bs) (before b (fields bs)))
+        (t : Bool) → eqb b 32 ≡ t → readIn (within s b) bs ≡ runFields (within s b) (fields bs)
+        → readIn (within s b) bs ≡ runFields s (cond t ([] ∷ fields bs) (before b (fields bs)))
     go true e ih = ih ∙ rw e (blank-run s (fields bs) (fields-some bs))
     go false e ih = ih ∙ rw e (digit-run s b (fields bs))
 
@@ -185,9 +181,27 @@ module _ {A : Type 0} (stored : ℕ → Entry → A) (off : A) (n : ℕ) where
       go false = ended-other (h ∷ (j ∷ (x ∷ xs)))
 
   -- A line from its beginning to its end comes to what the definition says of it.
-  pub line-read : (l : List ℕ) → close (runState (start n) l) ≡ outcome stored off n (lineOf (fields l))
+  pub line-read : (l : List ℕ) → close (readIn (start n) l) ≡ outcome stored off n (lineOf (fields l))
   line-read l = ap close (by-fields (start n) l) ∙ line-run (fields l)
 
+-- So the line says what the definition says.
+pub line-said : (n : ℕ) (l : List ℕ) → saidBy (readIn (start n) l) ≡ lineOf (fields l)
+line-said n l = plain (saidBy (readIn (start n) l)) (readIn (start n) l .lines) ∙ line-read (λ (m : ℕ) (e : Entry). Says e) Other n l ∙ sym (plain (lineOf (fields l)) n)
+  where
+    plain : (x : Line) (m : ℕ) → x ≡ outcome (λ (m : ℕ) (e : Entry). Says e) Other m x
+    plain Other m = refl
+    plain (Says e) m = refl
+
 -- A text of other form stays so.
-pub state-other : (l : List ℕ) → runState other l ≡ other
+pub state-other : (l : List ℕ) → readIn other l ≡ other
 state-other l = by-fields other l ∙ fields-other (fields l)
+
+-- ---- what the statements allow: one state before a line, one behind a byte, one answer at the end
+pub start-once : {n : ℕ} {s k : State} → s ≡ start n → k ≡ start n → s ≡ k
+start-once p q = cc
+
+pub within-once : (s : State) (b : ℕ) {t k : State} → t ≡ within s b → k ≡ within s b → t ≡ k
+within-once s b p q = cc
+
+pub said-once : (s : State) {x y : Line} → x ≡ saidBy s → y ≡ saidBy s → x ≡ y
+said-once s p q = cc

@@ -5,11 +5,12 @@
 --   leads, follows          a zero that no digit may follow; whether a digit may follow
 --   grown, typed            a digit
 --   beforeType, beforeCategory, parted   a blank
---   within                  any byte but a line end
+--   within, readIn          any byte but a line end; several
 --   entryOf, saidBy         what was read, at the end of the line
 -- Assumes nothing.
 use Prim.Native.Nat.{ℕ, _+_, _*_, min}
 use mathlib.Core.Bool.{Bool, cond, not, _&&_}
+use mathlib.Core.List.{List, [], _∷_}
 use lib.Dec.{leb, ltb, eqb}
 use Rattle.entries.specs.declared.Entry.{Entry}
 use Rattle.entries.specs.declared.Line.{Line}
@@ -77,6 +78,11 @@ parted s = cond (eqb (s .field) 0 && leb 4 (s .digits)) (beforeType s) (cond (eq
 -- Any byte but a line end.
 unfoldable pub within : State → ℕ → State
 within s b = cond (eqb b 32) (parted s) (typed s (digit b))
+
+-- Some bytes, one after the other; no bytes change nothing.
+abbrev pub readIn : State → List ℕ → State
+readIn s [] = s
+readIn s (b ∷ bs) = readIn (within s b) bs
 
 -- What was read, where the line ends behind the category.
 abbrev pub entryOf : State → Entry

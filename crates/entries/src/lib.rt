@@ -2,9 +2,10 @@
 //
 // `start`, then `within` for each byte, then `said`. The state is a few numbers, so that a line of any length is read without being held.
 ghost use mathlib.Core.Path.{_≡_};
-ghost use Prim.Native.Nat.{min};
-ghost use Rattle.entries.specs.Form.{digit as digitOf};
-ghost use Rattle.entries.specs.Steps.{base as baseOf, most as mostOf, start as startOf, follows as followsOn, typed as typedOf, parted as partedOf, within as withinOf, saidBy};
+ghost use mathlib.Core.List.{List};
+ghost use Prim.Native.Nat.{ℕ, min};
+ghost use Rattle.entries.specs.Form.{digit as digitOf, fields, lineOf};
+ghost use Rattle.entries.specs.Steps.{base as baseOf, most as mostOf, start as startOf, follows as followsOn, typed as typedOf, parted as partedOf, within as withinOf, readIn, saidBy};
 
 // What a line says: the code and with how many digits it was typed, the type, the category.
 pub struct Entry {
@@ -164,9 +165,10 @@ pub fn within(s: State, b: u8) -> State
     typed(s, digit(b))
 }
 
-// What the line says, if it ends here.
+// What the line says, if it ends here. Where the state is what reading a line from its beginning left, this is what the definition says of that line.
 pub fn said(s: State) -> Line
-    ensures { λ r. ⌜ r ≡ saidBy s ⌝ }
+    ensures state { λ r. ⌜ r ≡ saidBy s ⌝ }
+    ensures line { λ r. ⌜ ((n : ℕ) (l : List ℕ) → s ≡ readIn (startOf n) l → r ≡ lineOf (fields l)) ⌝ }
 {
     if (s.field == 2) & (1 <= s.digits) {
         return Line::Says(Entry {

@@ -18,10 +18,10 @@ use Rattle.entries.specs.declared.Entry.{Entry}
 use Rattle.entries.specs.declared.Line.{Line}
 use Rattle.entries.specs.declared.Line.the-variants.{Other, Says}
 use Rattle.entries.specs.Form.{before, fields, digit, lineOf}
-use Rattle.entries.specs.Steps.{start, other, follows, grown, typed, beforeType, beforeCategory, parted, within, saidBy}
+use Rattle.entries.specs.Steps.{start, other, follows, grown, typed, beforeType, beforeCategory, parted, within, readIn, saidBy}
 use Rattle.texts.specs.Form.{lines, says, readable, leading, entries, last, told, Closed, Close, whole}
 use Rattle.texts.specs.Steps.{up, Held, Hold, after, ended, inLine, stepped, readOn, finished, toldBy, closedBy, closed}
-use Rattle.entries.proofs.LineLaws.{runState, outcome, line-read, state-other}
+use Rattle.entries.proofs.LineLaws.{outcome, line-read, state-other}
 
 -- However a text is cut.
 pub read-append : (h : Held) (a b : List ℕ) → readOn h (a ++ b) ≡ readOn (readOn h a) b
@@ -81,7 +81,7 @@ by-lines h (b ∷ bs) = go (eqb b 10) (by-lines (ended h) bs) (by-lines (inLine 
     go true p q = p
     go false p q = q ∙ before-runs h b (lines bs)
 
-run-line : (s : State) (c w t g l : List ℕ) → runLine (Hold s c w t g) l ≡ Hold (runState s l) c w t g
+run-line : (s : State) (c w t g l : List ℕ) → runLine (Hold s c w t g) l ≡ Hold (readIn s l) c w t g
 run-line s c w t g [] = refl
 run-line s c w t g (b ∷ bs) = run-line (within s b) c w t g bs
 
@@ -90,7 +90,7 @@ one-line : (n : ℕ) (c w t g l : List ℕ) → ended (runLine (Hold (start n) c
 unfolding ended
 one-line n c w t g l =
     ap ended (run-line (start n) c w t g l)
-    ∙ stored (saidBy (runState (start n) l)) (runState (start n) l .lines)
+    ∙ stored (saidBy (readIn (start n) l)) (readIn (start n) l .lines)
     ∙ line-read (λ (m : ℕ) (e : Entry). after (Says e) m c w t g) (Hold other c w t g) n l
     ∙ sym (stored (lineOf (fields l)) n)
   where

@@ -16,7 +16,7 @@ enum-told c = search needs
 
 returns : tie.Need-returns
 unfolding ended
-returns c = rw (← (c .before .before .said .ensures), c .enum-told .given .1)
+returns c = rw (← (c .before .before .said .ensures .0), c .enum-told .given .1)
 
 store-u32-requires : tie.Need-store-u32-requires
 store-u32-requires c κs = search needs
@@ -50,7 +50,7 @@ same-length-4 c = search needs
 
 returns-2 : tie.Need-returns-2
 unfolding ended
-returns-2 c = rw (← (c .before .before .before .before .before .before .before .before .before .before .before .before .before .before .before .before .before .before .before .before .before .said .ensures), c .before .before .before .before .before .before .before .before .before .before .before .before .before .before .before .before .before .before .before .e .given .1, c .start .ensures, c .before .up .ensures, c .before .before .before .before .before .before .before .before .before .before .before .before .before .before .before .before .store-u32 .ensures, c .before .before .before .before .before .before .before .before .before .before .before .before .store-u8 .ensures, c .before .before .before .before .before .before .before .before .store-u82 .ensures, c .before .before .before .before .store-u83 .ensures)
+returns-2 c = rw (← (c .before .before .before .before .before .before .before .before .before .before .before .before .before .before .before .before .before .before .before .before .before .said .ensures .0), c .before .before .before .before .before .before .before .before .before .before .before .before .before .before .before .before .before .before .before .e .given .1, c .start .ensures, c .before .up .ensures, c .before .before .before .before .before .before .before .before .before .before .before .before .before .before .before .before .store-u32 .ensures, c .before .before .before .before .before .before .before .before .before .before .before .before .store-u8 .ensures, c .before .before .before .before .before .before .before .before .store-u82 .ensures, c .before .before .before .before .store-u83 .ensures)
 
 pub end-line-spec : {M : Type 1} → statement M
 end-line-spec =

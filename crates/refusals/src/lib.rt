@@ -106,8 +106,8 @@ pub fn limited(n: usize, most: usize) -> Verdict
 }
 
 // No element is above `most`.
-pub fn at_most(column: &[u8], most: u8) -> Verdict
-    ensures { λ r. ⌜ said r ≡ first (Given 3 (not (atMost most (now (column .entry)))) ∷ []) ⌝ }
+pub fn within(column: &[u8], most: u8) -> bool
+    ensures { λ r. ⌜ r ≡ atMost most (now (column .entry)) ⌝ }
 {
     let mut ok = true;
     let mut i = 0;
@@ -115,7 +115,14 @@ pub fn at_most(column: &[u8], most: u8) -> Verdict
         ok = ok & (column[i] <= most);
         i += 1;
     }
-    unless(ok, Refusal::OutOfRange)
+    ok
+}
+
+// A column has no element above `most`.
+pub fn at_most(column: &[u8], most: u8) -> Verdict
+    ensures { λ r. ⌜ said r ≡ first (Given 3 (not (atMost most (now (column .entry)))) ∷ []) ⌝ }
+{
+    unless(within(column, most), Refusal::OutOfRange)
 }
 
 // Each element is above the one before it.

@@ -1,0 +1,41 @@
+-- A held line and what it stands in: `Letters` the types of letters as they are lent; `Setting` all that a line is joined by; `Line` its
+-- columns; `Left` what a call leaves of it; `settingOf`, `lineOf` both from the parameters of a call.
+-- Assumes nothing.
+use mathlib.Core.Bool.{Bool}
+use mathlib.Core.List.{List}
+use Prim.Native.Nat.{ℕ}
+
+-- letters, by a column of types and its column of categories
+pub record Letters : Type 0 where
+  pub types : List ℕ
+  pub categories : List ℕ
+
+-- the contexts before and behind a line, each with its nearest letter first; the seven feature masks; whether the line is Mongolian
+pub record Setting : Type 0 where
+  pub pre : Letters
+  pub post : Letters
+  pub features : List ℕ
+  pub mongolian : Bool
+
+-- a line's columns: codes, letters, base masks, actions, masks
+pub record Line : Type 0 where
+  pub codes : List ℕ
+  pub letters : Letters
+  pub base : List ℕ
+  pub actions : List ℕ
+  pub masks : List ℕ
+
+-- the number that a call gives, 0 if it is accepted, and the line afterwards
+pub data Left : Type 0 where
+  After : (number : ℕ) → (line : Line) → Left
+
+abbrev pub lettersOf : List ℕ → List ℕ → Letters
+lettersOf types categories = record { types = types; categories = categories }
+
+abbrev pub settingOf : List ℕ → List ℕ → List ℕ → List ℕ → List ℕ → Bool → Setting
+settingOf preTypes preCategories postTypes postCategories features mongolian =
+    record { pre = lettersOf preTypes preCategories; post = lettersOf postTypes postCategories; features = features; mongolian = mongolian }
+
+abbrev pub lineOf : List ℕ → List ℕ → List ℕ → List ℕ → List ℕ → List ℕ → Line
+lineOf codes types categories base actions masks =
+    record { codes = codes; letters = lettersOf types categories; base = base; actions = actions; masks = masks }

@@ -1,0 +1,138 @@
+// Lines: the public call that joins a line.
+ghost use mathlib.Core.Path.{_≡_};
+ghost use mathlib.Core.Bool.{cond};
+ghost use lib.ListN.{length};
+ghost use Rattle.refusals.specs.Numbers.{said};
+ghost use Rattle.selectors.specs.Selectors.{settled};
+ghost use Rattle.lines.specs.Held.{lettersOf, settingOf, lineOf, After};
+ghost use Rattle.lines.specs.Joined.{knownLetters, refusedWith, refusal, joinedLine, joinAfter};
+use letters::Category;
+use letters::JoiningType;
+use refusals::Refusal;
+use refusals::Verdict;
+
+// Records of a line, and letters of a context, at most.
+const LINE_LIMIT: usize = 4096;
+
+const CONTEXT_LIMIT: usize = 64;
+
+// Each type is one of the eight, each category one of the thirty.
+fn known_letters(types: &[u8], cats: &[u8]) -> bool
+    ensures { λ r. ⌜ r ≡ knownLetters (lettersOf (now (types .entry)) (now (cats .entry))) ⌝ }
+{
+    refusals::within(types, JoiningType::X.0) & refusals::within(cats, Category::ZS.0)
+}
+
+// The refusal of a line, of which it is known whether its columns are even, and its contexts.
+pub fn refused(
+    line_even: bool,
+    types: &[u8],
+    cats: &[u8],
+    pre_types: &[u8],
+    pre_cats: &[u8],
+    post_types: &[u8],
+    post_cats: &[u8],
+) -> Verdict
+    ensures { λ r. ⌜ said r ≡ refusedWith «line_even» (lettersOf (now (types .entry)) (now (cats .entry))) (lettersOf (now («pre_types» .entry)) (now («pre_cats» .entry))) (lettersOf (now («post_types» .entry)) (now («post_cats» .entry))) ⌝ }
+{
+    let even = line_even
+        & ((pre_types.len() == pre_cats.len()) & (post_types.len() == post_cats.len()));
+    let short = (types.len() <= LINE_LIMIT)
+        & ((pre_types.len() <= CONTEXT_LIMIT) & (post_types.len() <= CONTEXT_LIMIT));
+    let known = known_letters(types, cats)
+        & (known_letters(pre_types, pre_cats) & known_letters(post_types, post_cats));
+    let uneven = refusals::unless(even, Refusal::Uneven);
+    let long = refusals::unless(short, Refusal::TooLong);
+    let strange = refusals::unless(known, Refusal::OutOfRange);
+    uneven.sooner(long.sooner(strange))
+}
+
+// In a Mongolian line selectors take the action of the record before them.
+fn settle(mongolian: bool, codes: &[u32], actions: &mut [u8])
+    requires { ⌜ length (now codes) ≡ length (now actions) ⌝ }
+    ensures { λ _. ⌜ now (actions .exit) ≡ cond mongolian (settled (now (codes .entry)) (now (actions .entry))) (now (actions .entry)) ⌝ }
+{
+    if mongolian {
+        selectors::mongolian_variation_selectors(codes, actions);
+    }
+}
+
+// Joins a line that is not refused.
+fn join_accepted(
+    codes: &[u32],
+    types: &[u8],
+    cats: &[u8],
+    pre_types: &[u8],
+    pre_cats: &[u8],
+    post_types: &[u8],
+    post_cats: &[u8],
+    base: &[u32],
+    features: [u32; 7],
+    mongolian: bool,
+    actions: &mut [u8],
+    masks: &mut [u32],
+)
+    requires { ⌜ refusal (settingOf (now «pre_types») (now «pre_cats») (now «post_types») (now «post_cats») features mongolian) (lineOf (now codes) (now types) (now cats) (now base) (now actions) (now masks)) ≡ 0 ⌝ }
+    ensures { λ _. ⌜ lineOf (now (codes .entry)) (now (types .entry)) (now (cats .entry)) (now (base .entry)) (now (actions .exit)) (now (masks .exit)) ≡ joinedLine (settingOf (now («pre_types» .entry)) (now («pre_cats» .entry)) (now («post_types» .entry)) (now («post_cats» .entry)) features mongolian) (lineOf (now (codes .entry)) (now (types .entry)) (now (cats .entry)) (now (base .entry)) (now (actions .entry)) (now (masks .entry))) ⌝ }
+{
+    joining::arabic_joining(
+        types,
+        cats,
+        pre_types,
+        pre_cats,
+        post_types,
+        post_cats,
+        actions,
+    );
+    settle(mongolian, codes, actions);
+    masks::setup_masks(features, base, actions, masks);
+}
+
+// Joins a line: writes the action and the mask of each record. The contexts have their nearest letters first.
+pub fn join_line(
+    codes: &[u32],
+    types: &[u8],
+    cats: &[u8],
+    pre_types: &[u8],
+    pre_cats: &[u8],
+    post_types: &[u8],
+    post_cats: &[u8],
+    base: &[u32],
+    features: [u32; 7],
+    mongolian: bool,
+    actions: &mut [u8],
+    masks: &mut [u32],
+) -> Verdict
+    ensures { λ r. ⌜ After (said r) (lineOf (now (codes .entry)) (now (types .entry)) (now (cats .entry)) (now (base .entry)) (now (actions .exit)) (now (masks .exit))) ≡ joinAfter (settingOf (now («pre_types» .entry)) (now («pre_cats» .entry)) (now («post_types» .entry)) (now («post_cats» .entry)) features mongolian) (lineOf (now (codes .entry)) (now (types .entry)) (now (cats .entry)) (now (base .entry)) (now (actions .entry)) (now (masks .entry))) ⌝ }
+{
+    let n = types.len();
+    let line_even = (n == cats.len())
+        & ((n == codes.len()) & ((n == base.len()) & ((n == actions.len()) & (n == masks.len()))));
+    let verdict = refused(
+        line_even,
+        types,
+        cats,
+        pre_types,
+        pre_cats,
+        post_types,
+        post_cats,
+    );
+    if verdict.number() != 0 {
+        return verdict;
+    }
+    join_accepted(
+        codes,
+        types,
+        cats,
+        pre_types,
+        pre_cats,
+        post_types,
+        post_cats,
+        base,
+        features,
+        mongolian,
+        actions,
+        masks,
+    );
+    verdict
+}

@@ -1,0 +1,27 @@
+-- `masks::mask_of` meets its contract: an entry, or past the entries the base mask alone.
+-- Assumes nothing.
+use mathlib.Core.Path.{refl, sym}
+use native.Mathlib.Omega.{arith}
+use borrow.Author.Needs.{needs}
+use Rattle.masks.specs.Masks.{mask}
+use Rattle.masks.proofs.MaskLaws.{mask-past}
+use Rattle.masks.proofs.mask_of.Statement.{statement}
+use Rattle.masks.proofs.mask_of.Tie as tie
+
+mul-result : tie.Need-mul-result
+mul-result c = search needs
+
+element-copy-out-result : tie.Need-element-copy-out-result
+element-copy-out-result c = search needs
+
+returns : tie.Need-returns
+unfolding mask
+returns c = refl
+
+returns-2 : tie.Need-returns-2
+returns-2 c =
+    let a = c .before .args in
+    sym (mask-past (a .features .now) (a .base) (a .action) (omega (arith, c .before .pre)))
+
+pub mask-of-spec : {M : Type 1} → statement M
+mask-of-spec = tie.close (tie.spec mul-result element-copy-out-result returns returns-2)

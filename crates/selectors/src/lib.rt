@@ -1,0 +1,27 @@
+// Mongolian variation selectors: each takes the action of the record before it.
+ghost use mathlib.Core.Path.{_≡_};
+ghost use lib.ListN.{length};
+ghost use Rattle.selectors.specs.Selectors.{selector, settled};
+
+// Whether a code is one of the four selectors.
+pub fn is_selector(c: u32) -> bool
+    ensures { λ r. ⌜ r ≡ selector c ⌝ }
+{
+    (c == 0x180B) | ((c == 0x180C) | ((c == 0x180D) | (c == 0x180F)))
+}
+
+// Settles the actions of a joined line. A record is looked at once the one before it is settled, so the action there is the one to take.
+pub fn mongolian_variation_selectors(codes: &[u32], actions: &mut [u8])
+    requires { ⌜ length (now codes) ≡ length (now actions) ⌝ }
+    ensures { λ _. ⌜ now (actions .exit) ≡ settled (now (codes .entry)) (now (actions .entry)) ⌝ }
+{
+    let mut i = 0;
+    while i + 1 < codes.len() {
+        if is_selector(codes[i + 1]) {
+            actions[i + 1] = actions[i];
+            i += 1;
+        } else {
+            i += 1;
+        }
+    }
+}

@@ -1,0 +1,6 @@
+-- The modules that belong to no one function.
+-- Assumes nothing.
+pub mod JoiningLaws
+pub mod LocalityLaws
+pub mod MachineLaws
+pub mod UnicodeLaws

@@ -12,7 +12,7 @@ use lib.ListN.{length, getD, set, take, drop, length-set, drop-of-length-le, Lis
 use lib.Seq.{sets, set-out}
 use borrow.Author.Tests.{lt-ltb, le-ltb, ltb-true, ltb-false}
 use Rattle.laws.proofs.LoopLaws.{drop-next}
-use Rattle.printing.specs.Printed.{glyph, numeral, places, decimal, names, nameOf, nameFrom, row, rows, heading, printed}
+use Rattle.printing.specs.Printed.{glyph, numeral, places, decimal, names, nameOf, nameFrom, row, rows, heading, printed, refusedWord, refusedText}
 use Rattle.printing.specs.Writing.{Written, Wrote, wrote, writes, filled}
 
 pub writes-append : (x : Written) (a b : List ℕ) → writes x (a ++ b) ≡ writes (writes x a) b
@@ -188,6 +188,16 @@ print-filled out codes widths actions x y p q =
     ∙ sym (writes-append (Wrote out 0) heading (rows 0 codes widths actions))
     ∙ writes-filled out (heading ++ rows 0 codes widths actions)
 
--- The statement of printing allows one answer and one content of the memory.
+pub refused-filled :
+    (out : List ℕ) (number p : ℕ) (x y z : Written) → x ≡ writes (Wrote out 0) refusedWord → p ≡ places number → y ≡ writes x (numeral 10 p number) → z ≡ wrote y 10
+    → z ≡ filled out (refusedText number)
+unfolding refusedText
+refused-filled out number p x y z hx hp hy hz =
+    hz
+    ∙ ap (λ (q : Written). wrote q 10) (hy ∙ ap (λ (k : ℕ). writes x (numeral 10 k number)) hp ∙ ap (λ (q : Written). writes q (decimal number)) hx)
+    ∙ sym (writes-append (Wrote out 0) refusedWord (decimal number ++ (10 ∷ [])) ∙ writes-append (writes (Wrote out 0) refusedWord) (decimal number) (10 ∷ []))
+    ∙ writes-filled out (refusedWord ++ (decimal number ++ (10 ∷ [])))
+
+-- The statements allow one answer and one content of the memory.
 pub print-once : {x : Written} {out out′ : List ℕ} {r r′ : ℕ} → Wrote out r ≡ x → Wrote out′ r′ ≡ x → (out ≡ out′) × (r ≡ r′)
 print-once p q = (cc, cc)

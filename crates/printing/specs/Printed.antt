@@ -4,6 +4,7 @@
 --   names, nameOf, nameFrom   the names of the actions
 --   row, rows         a letter's row, and those of a line
 --   heading, printed  the first row, and all of them
+--   unreadableText, refusedWord, refusedText   what is printed where there is no joined line
 -- Assumes nothing.
 use Prim.Native.Nat.{ℕ, zero, suc, _+_, _*_, _/_, _%_}
 use mathlib.Core.Bool.{cond}
@@ -67,3 +68,15 @@ heading = 112 ∷ 108 ∷ 97 ∷ 99 ∷ 101 ∷ 32 ∷ 99 ∷ 111 ∷ 100 ∷ 10
 -- All that is printed of a joined line: columns of codes, of how many digits each was typed with, and of actions.
 unfoldable pub printed : List ℕ → List ℕ → List ℕ → List ℕ
 printed codes widths actions = heading ++ rows 0 codes widths actions
+
+-- `unreadable` and a line end: all that is printed of a text with a line of other form.
+abbrev pub unreadableText : List ℕ
+unreadableText = 117 ∷ 110 ∷ 114 ∷ 101 ∷ 97 ∷ 100 ∷ 97 ∷ 98 ∷ 108 ∷ 101 ∷ 10 ∷ []
+
+-- `refused` and a blank.
+abbrev pub refusedWord : List ℕ
+refusedWord = 114 ∷ 101 ∷ 102 ∷ 117 ∷ 115 ∷ 101 ∷ 100 ∷ 32 ∷ []
+
+-- All that is printed of a line that is refused: the word, the number of refusal and a line end.
+unfoldable pub refusedText : ℕ → List ℕ
+refusedText number = refusedWord ++ (decimal number ++ (10 ∷ []))

@@ -1,10 +1,10 @@
-// What `joinline` prints of a joined line, written to lent memory: the heading, and a row for each letter.
+// What `joinline` prints, written to lent memory: the heading and a row for each letter of a joined line, or why there is none.
 //
 // Bytes that do not fit are left out. 512 rows and the heading fit 8,448 bytes: a row has at most three digits, six, nine letters, two
 // blanks and a line end.
 ghost use mathlib.Core.Path.{_≡_};
 ghost use Prim.Native.Nat.{_<_, _≤_};
-ghost use Rattle.printing.specs.Printed.{glyph as glyphOf, numeral as numeralOf, places as placesOf, nameOf, nameFrom, row as rowOf, rows as rowsOf, heading as headingOf, printed};
+ghost use Rattle.printing.specs.Printed.{glyph as glyphOf, numeral as numeralOf, places as placesOf, nameOf, nameFrom, row as rowOf, rows as rowsOf, heading as headingOf, printed, unreadableText, refusedWord, refusedText};
 ghost use Rattle.printing.specs.Writing.{Wrote, wrote, writes, filled};
 
 const BLANK: u8 = 32;
@@ -59,25 +59,6 @@ const NAMES: [u8; 46] = [
     105,
     110,
     103,
-];
-
-const HEADING: [u8; 16] = [
-    112,
-    108,
-    97,
-    99,
-    101,
-    32,
-    99,
-    111,
-    100,
-    101,
-    32,
-    102,
-    111,
-    114,
-    109,
-    10,
 ];
 
 // Writes a byte, if it fits; answers the place behind it.
@@ -189,8 +170,7 @@ fn rows(out: &mut [u8], at: usize, codes: &[u32], widths: &[u8], actions: &[u8])
 fn heading(out: &mut [u8]) -> usize
     ensures { λ r. ⌜ Wrote (now (out .exit)) r ≡ writes (Wrote (now (out .entry)) 0) headingOf ⌝ }
 {
-    let text = HEADING;
-    put_all(out, 0, &text)
+    put_all(out, 0, b"place code form\n")
 }
 
 // Writes all that is printed of a joined line from the start of the memory lent, as much of it as fits; answers how much that is.
@@ -199,4 +179,28 @@ pub fn print(codes: &[u32], widths: &[u8], actions: &[u8], out: &mut [u8]) -> us
 {
     let at = heading(out);
     rows(out, at, codes, widths, actions)
+}
+
+// Writes that a text is unreadable, likewise.
+pub fn unreadable(out: &mut [u8]) -> usize
+    ensures { λ r. ⌜ Wrote (now (out .exit)) r ≡ filled (now (out .entry)) unreadableText ⌝ }
+{
+    put_all(out, 0, b"unreadable\n")
+}
+
+// Writes the word before a number of refusal.
+fn refused_word(out: &mut [u8]) -> usize
+    ensures { λ r. ⌜ Wrote (now (out .exit)) r ≡ writes (Wrote (now (out .entry)) 0) refusedWord ⌝ }
+{
+    put_all(out, 0, b"refused ")
+}
+
+// Writes that a line is refused, likewise.
+pub fn refused(number: u8, out: &mut [u8]) -> usize
+    ensures { λ r. ⌜ Wrote (now (out .exit)) r ≡ filled (now (out .entry)) (refusedText number) ⌝ }
+{
+    let n = number as usize;
+    let a = refused_word(out);
+    let b = numeral(out, a, n, 10, places(n));
+    put(out, b, LINE_END)
 }

@@ -5,56 +5,28 @@
 use entries::State;
 use libc::STDIN_FILENO;
 use libc::STDOUT_FILENO;
-ghost use Prim.Native.Nat.{_≤_};
 
-// The state behind a piece of the input, and how many bytes the piece had: none at the end of the input.
-struct Piece {
-    state: State,
-    bytes: usize,
-}
-
-// Reads a piece.
-fn next(
-    s: State,
-    codes: &mut [u32],
-    widths: &mut [u8],
-    types: &mut [u8],
-    cats: &mut [u8],
-) -> Piece {
-    let mut room = io::buffer();
-    let n = io::read_full(STDIN_FILENO, &mut room);
-    let next = texts::read_on(s, &room[..n], codes, widths, types, cats);
-    Piece {
-        state: next,
-        bytes: n,
-    }
-}
-
-// Reads the input to its end. That it ends is not known, so that the pieces are counted.
+// Reads the input to its end, a piece at a time. That it ends is not known, so that the pieces are counted.
 fn read(codes: &mut [u32], widths: &mut [u8], types: &mut [u8], cats: &mut [u8]) -> State {
+    let mut room = io::buffer();
     let mut s = texts::begin();
     let mut left: u64 = 18446744073709551615;
     while 0 < left {
-        let p = next(s, codes, widths, types, cats);
-        if p.bytes == 0 {
-            return p.state;
+        let n = io::read_full(STDIN_FILENO, &mut room);
+        if n == 0 {
+            return s;
         }
-        s = p.state;
+        s = texts::read_on(s, &room[..n], codes, widths, types, cats);
         left -= 1;
     }
     s
 }
 
-fn shorter(a: usize, b: usize) -> usize
-    ensures { λ r. ⌜ (r ≤ a) × (r ≤ b) ⌝ }
-{
-    if a < b { a } else { b }
-}
-
-// Prints the first `n` bytes of a text, or all if there are fewer.
+// Prints the first `n` bytes of a text that has so many.
 fn say(text: &[u8], n: usize) {
-    let m = shorter(n, text.len());
-    io::write_all(STDOUT_FILENO, &text[..m]);
+    if n <= text.len() {
+        io::write_all(STDOUT_FILENO, &text[..n]);
+    }
 }
 
 fn run(codes: &mut [u32], widths: &mut [u8], types: &mut [u8], cats: &mut [u8], out: &mut [u8]) {

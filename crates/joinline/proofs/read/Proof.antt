@@ -7,11 +7,14 @@ use Rattle.joinline.proofs.read.Statement.{statement}
 use Rattle.joinline.proofs.read.Tie as tie
 
 abbrev Inv-loop : tie.InvT-loop
-Inv-loop codes₀ widths₀ types₀ cats₀ s₀ left₀ codes widths types cats s left =
-    (length codes ≡ length codes₀) × (length widths ≡ length widths₀) × (length types ≡ length types₀) × (length cats ≡ length cats₀)
+Inv-loop codes₀ widths₀ types₀ cats₀ room₀ s₀ left₀ codes widths types cats room s left =
+    (length codes ≡ length codes₀) × (length widths ≡ length widths₀) × (length types ≡ length types₀) × (length cats ≡ length cats₀) × (4096 ≡ length room)
 
 abbrev μ-loop : tie.MeasureT-loop
-μ-loop codes₀ widths₀ types₀ cats₀ s₀ left₀ codes widths types cats s left = left
+μ-loop codes₀ widths₀ types₀ cats₀ room₀ s₀ left₀ codes widths types cats room s left = left
+
+buffer-requires : tie.Need-buffer-requires Inv-loop μ-loop
+buffer-requires c κs = search needs
 
 begin-requires : tie.Need-begin-requires Inv-loop μ-loop
 begin-requires c κs = search needs
@@ -19,8 +22,11 @@ begin-requires c κs = search needs
 loop-holds : tie.Need-loop-holds Inv-loop μ-loop
 loop-holds c = search needs
 
-next-requires : tie.Need-next-requires Inv-loop μ-loop
-next-requires c κs = search needs
+slice-aggregate-read-full : tie.Need-slice-aggregate-read-full Inv-loop μ-loop
+slice-aggregate-read-full c = search needs
+
+read-full-requires : tie.Need-read-full-requires Inv-loop μ-loop
+read-full-requires c κs = search needs
 
 same-length : tie.Need-same-length Inv-loop μ-loop
 same-length c = search needs
@@ -36,6 +42,15 @@ same-length-4 c = search needs
 
 returns : tie.Need-returns Inv-loop μ-loop
 returns c = search needs
+
+array-share-prefix-room : tie.Need-array-share-prefix-room Inv-loop μ-loop
+array-share-prefix-room c = search needs
+
+slice-aggregate-read-on : tie.Need-slice-aggregate-read-on Inv-loop μ-loop
+slice-aggregate-read-on c = search needs
+
+read-on-requires : tie.Need-read-on-requires Inv-loop μ-loop
+read-on-requires c κs = search needs
 
 sub-left : tie.Need-sub-left Inv-loop μ-loop
 sub-left c = search needs
@@ -67,14 +82,19 @@ read-spec =
     (tie.spec
     Inv-loop
     μ-loop
+    buffer-requires
     begin-requires
     loop-holds
-    next-requires
+    slice-aggregate-read-full
+    read-full-requires
     same-length
     same-length-2
     same-length-3
     same-length-4
     returns
+    array-share-prefix-room
+    slice-aggregate-read-on
+    read-on-requires
     sub-left
     loop-less
     loop-again

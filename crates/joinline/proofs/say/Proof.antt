@@ -6,13 +6,10 @@ use borrow.Author.Needs.{needs}
 use Rattle.joinline.proofs.say.Statement.{statement}
 use Rattle.joinline.proofs.say.Tie as tie
 
-shorter-requires : tie.Need-shorter-requires
-shorter-requires c κs = search needs
-
 slice-aggregate-write-all : tie.Need-slice-aggregate-write-all
 slice-aggregate-write-all c =
-    let k = c .before in
-    sym (length-take-le (k .shorter .result) (k .before .before .args .text .now) (k .shorter .ensures .1))
+    let a = c .before .before .before .args in
+    sym (length-take-le (a .n) (a .text .now) (c .before .if1 .taken))
 
 write-all-requires : tie.Need-write-all-requires
 write-all-requires c κs = search needs
@@ -20,6 +17,8 @@ write-all-requires c κs = search needs
 returns : tie.Need-returns
 returns c = search needs
 
+returns-2 : tie.Need-returns-2
+returns-2 c = search needs
+
 pub say-spec : {M : Type 1} → statement M
-say-spec =
-    tie.close (tie.spec shorter-requires slice-aggregate-write-all write-all-requires returns)
+say-spec = tie.close (tie.spec slice-aggregate-write-all write-all-requires returns returns-2)

@@ -1,0 +1,3 @@
+-- What the contracts of `answers` cite: what the program `joinline` prints of a text.
+-- Assumes nothing.
+pub mod Output

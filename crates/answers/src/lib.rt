@@ -1,0 +1,127 @@
+// What `joinline` prints of a text that was read: the text is joined as one line, and the answer is written to lent memory.
+ghost use mathlib.Core.Path.{_≡_};
+ghost use mathlib.Core.List.{List};
+ghost use Prim.Native.Nat.{ℕ, _≤_, min};
+ghost use lib.ListN.{length};
+ghost use Rattle.texts.specs.Form.{Close, whole};
+ghost use Rattle.printing.specs.Writing.{Wrote, filled};
+ghost use Rattle.answers.specs.Output.{lineText, output, linesText, answerText, Even};
+use texts::Told;
+
+fn shorter(a: usize, b: usize) -> usize
+    ensures { λ r. ⌜ r ≡ min a b ⌝ }
+{
+    if a < b { a } else { b }
+}
+
+// Joins a line of columns that are of one length, at most 512, and writes what comes of it.
+fn line(
+    codes: &[u32],
+    widths: &[u8],
+    types: &[u8],
+    cats: &[u8],
+    base: &[u32],
+    actions: &mut [u8],
+    masks: &mut [u32],
+    out: &mut [u8],
+) -> usize
+    requires { ⌜ Even (length (now types)) (now codes) (now cats) (now base) (now actions) (now masks) ⌝ }
+    ensures { λ r. ⌜ Wrote (now (out .exit)) r ≡ filled (now (out .entry)) (lineText (now (codes .entry)) (now (widths .entry)) (now (types .entry)) (now (cats .entry))) ⌝ }
+{
+    let none = [0u8; 0];
+    let verdict = lines::join_line(
+        codes,
+        types,
+        cats,
+        &none,
+        &none,
+        &none,
+        &none,
+        base,
+        [0; 7],
+        false,
+        actions,
+        masks,
+    );
+    let k = verdict.number();
+    if k != 0 {
+        return printing::refused(k, out);
+    }
+    printing::print(codes, widths, actions, out)
+}
+
+// Joins the first `n` records, if the columns hold so many.
+fn lined(
+    n: usize,
+    codes: &[u32],
+    widths: &[u8],
+    types: &[u8],
+    cats: &[u8],
+    base: &[u32],
+    actions: &mut [u8],
+    masks: &mut [u32],
+    out: &mut [u8],
+) -> usize
+    requires { ⌜ (512 ≤ length (now base)) × (512 ≤ length (now actions)) × (512 ≤ length (now masks)) ⌝ }
+    ensures { λ r. ⌜ Wrote (now (out .exit)) r ≡ filled (now (out .entry)) (linesText n (now (codes .entry)) (now (widths .entry)) (now (types .entry)) (now (cats .entry))) ⌝ }
+{
+    let most = shorter(
+        512,
+        shorter(
+            shorter(codes.len(), widths.len()),
+            shorter(types.len(), cats.len()),
+        ),
+    );
+    if n <= most {
+        return line(
+            &codes[..n],
+            &widths[..n],
+            &types[..n],
+            &cats[..n],
+            &base[..n],
+            &mut actions[..n],
+            &mut masks[..n],
+            out,
+        );
+    }
+    printing::refused(2, out)
+}
+
+// Lends the columns that joining wants, and nothing more.
+fn lend(n: usize, codes: &[u32], widths: &[u8], types: &[u8], cats: &[u8], out: &mut [u8]) -> usize
+    ensures { λ r. ⌜ Wrote (now (out .exit)) r ≡ filled (now (out .entry)) (linesText n (now (codes .entry)) (now (widths .entry)) (now (types .entry)) (now (cats .entry))) ⌝ }
+{
+    let base = [0u32; 512];
+    let mut actions = [0u8; 512];
+    let mut masks = [0u32; 512];
+    lined(
+        n,
+        codes,
+        widths,
+        types,
+        cats,
+        &base,
+        &mut actions,
+        &mut masks,
+        out,
+    )
+}
+
+// Writes what is printed of a text that came to this, read into these columns, as much of it as fits; answers how much that is. Where they are what
+// reading a text into columns of at least 512 left, this is what the definition says of that text.
+pub fn answer(
+    told: Told,
+    codes: &[u32],
+    widths: &[u8],
+    types: &[u8],
+    cats: &[u8],
+    out: &mut [u8],
+) -> usize
+    ensures columns { λ r. ⌜ Wrote (now (out .exit)) r ≡ filled (now (out .entry)) (answerText told (now (codes .entry)) (now (widths .entry)) (now (types .entry)) (now (cats .entry))) ⌝ }
+    ensures text { λ r. ⌜ ((text c w t g : List ℕ) → 512 ≤ length c → 512 ≤ length w → 512 ≤ length t → 512 ≤ length g → Close told (now (codes .entry)) (now (widths .entry)) (now (types .entry)) (now (cats .entry)) ≡ whole text c w t g → Wrote (now (out .exit)) r ≡ filled (now (out .entry)) (output text)) ⌝ }
+{
+    match told {
+        Told::Unreadable => printing::unreadable(out),
+        Told::Lines(n) => lend(n, codes, widths, types, cats, out),
+    }
+}

@@ -1,0 +1,3 @@
+-- The laws that the proofs of `printing` share.
+-- Assumes nothing.
+pub mod WriteLaws

@@ -2,24 +2,49 @@
 -- transparent letter gets.
 -- Assumes nothing.
 use mathlib.Core.Path.{_≡_, refl, sym, ap, _∙_}
-use mathlib.Core.Bool.{Bool, true, false, cond, _&&_, and-eq-true-iff}
+use mathlib.Core.Bool.{Bool, true, false, cond, _&&_, _||_, and-eq-true-iff}
 use mathlib.Core.List.{List, [], _∷_}
 use Prim.Native.Nat.{ℕ, zero, suc, _+_, _<_, _≤_}
 use native.Mathlib.Nat.{not-suc-le-zero, le-of-suc-le-suc}
 use native.Mathlib.Omega.{arith}
-use borrow.Author.Tests.{leb-true, eqb-false}
+use borrow.Author.Tests.{leb-true, eqb-false, le-leb}
 use lib.Dec.{eqb, leb, lit<}
 use lib.ListN.{length, getD, drop, drop-of-length-le}
 use Rattle.laws.proofs.LoopLaws.{drop-next}
 use Rattle.refusals.specs.Columns.{atMost}
-use Rattle.letters.specs.Types.{U, T, X, resolved}
+use Rattle.letters.specs.Types.{U, L, R, D, Alaph, DalathRish, T, X, resolved}
 use Rattle.letters.specs.Actions.{none}
 use Rattle.letters.proofs.LetterLaws.{resolved-below}
-use Rattle.shapes.specs.Joining.{form, nearest, eachBetween, passed, lineTypes}
+use Rattle.shapes.specs.Joining.{reachesOn, reachesBack, form, nearest, eachBetween, passed, lineTypes}
 
 pub form-transparent : (p n : ℕ) → form p T n ≡ none
 unfolding form
 form-transparent p n = refl
+
+-- a choice is at most m where both sides are
+cond-most : (b : Bool) {x y : ℕ} (m : ℕ) → x ≤ m → y ≤ m → cond b x y ≤ m
+cond-most true m h k = h
+cond-most false m h k = k
+
+-- joining gives one of the first eight actions: none is fixed or repeating
+pub form-most : (p t n : ℕ) → form p t n ≤ none
+unfolding form
+form-most p t n =
+    let on = reachesOn p in
+    let back = reachesBack n in
+    cond-most (eqb t R || eqb t DalathRish) none (cond-most on none (omega arith) (omega arith))
+    (cond-most (eqb t L) none (cond-most back none (omega arith) (omega arith))
+    (cond-most (eqb t D) none
+    (cond-most on none (cond-most back none (omega arith) (omega arith)) (cond-most back none (omega arith) (omega arith)))
+    (cond-most (eqb t Alaph) none
+    (cond-most on none (cond-most back none (omega arith) (omega arith))
+    (cond-most (eqb p DalathRish) none (cond-most back none (omega arith) (omega arith))
+    (cond-most (eqb p R || eqb p Alaph) none (cond-most back none (omega arith) (omega arith)) (omega arith))))
+    (omega arith))))
+
+pub each-most : (p : ℕ) (ts : List ℕ) (a : ℕ) → atMost none (eachBetween form p ts a) ≡ true
+each-most p [] a = refl
+each-most p (t ∷ ts) a = simp (le-leb (form p t (nearest ts a)) none (form-most p t (nearest ts a))) (each-most (passed p t) ts a)
 
 pub length-each : (f : ℕ → ℕ → ℕ → ℕ) (p : ℕ) (ts : List ℕ) (a : ℕ) → length (eachBetween f p ts a) ≡ length ts
 length-each f p [] a = refl

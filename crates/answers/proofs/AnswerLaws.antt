@@ -118,7 +118,7 @@ even-front n c w t g b x m h hb hx hm =
 
 -- ---- columns that a text was read into
 -- Lines that all say an entry have as many.
-entries-all : (ls : List (List ℕ)) → readable ls ≡ true → length (entries ls) ≡ length ls
+pub entries-all : (ls : List (List ℕ)) → readable ls ≡ true → length (entries ls) ≡ length ls
 entries-all [] r = refl
 entries-all (l ∷ ls) r = go (form.lineOf (form.fields l)) r (entries-all ls)
   where

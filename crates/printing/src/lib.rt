@@ -1,7 +1,6 @@
 // What `joinline` prints, written to lent memory: the heading and a row for each letter of a joined line, or why there is none.
 //
-// Bytes that do not fit are left out. 512 rows and the heading fit 8,448 bytes: a row has at most three digits, six, nine letters, two
-// blanks and a line end.
+// Bytes that do not fit are left out.
 ghost use mathlib.Core.Path.{_≡_};
 ghost use Prim.Native.Nat.{_<_, _≤_};
 ghost use Rattle.printing.specs.Printed.{glyph as glyphOf, numeral as numeralOf, places as placesOf, nameOf, nameFrom, row as rowOf, rows as rowsOf, heading as headingOf, printed, unreadableText, refusedWord, refusedText};

@@ -36,7 +36,7 @@ fn run(codes: &mut [u32], widths: &mut [u8], types: &mut [u8], cats: &mut [u8], 
     say(out, n);
 }
 
-// Lends the columns, and nothing more. 512 rows of at most 16 bytes fit, and the heading.
+// Lends the columns, and nothing more. Whatever is printed fits 8,448 bytes (crate `answers`, FitLaws).
 fn main() {
     let mut codes = [0u32; 512];
     let mut widths = [0u8; 512];

@@ -2,3 +2,4 @@
 -- Assumes nothing.
 pub mod ExamplesHold
 pub mod JoiningHolds
+pub mod ProgramHolds

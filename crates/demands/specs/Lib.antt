@@ -2,3 +2,4 @@
 -- Assumes nothing.
 pub mod Examples
 pub mod Joining
+pub mod Program

@@ -1,12 +1,12 @@
 -- What joining answers of a line decides what is printed of it; and columns that a text was read into give what is printed of the text.
 -- Assumes nothing.
-use Prim.Native.Nat.{ℕ, zero, suc, _+_, _≤_, _<_, min}
+use Prim.Native.Nat.{ℕ, suc, _+_, _≤_, _<_, min}
 use mathlib.Core.Bool.{Bool, true, false, cond, not, _&&_, false≢true}
-use mathlib.Core.List.{List, [], _∷_, _++_, map}
+use mathlib.Core.List.{List, [], _∷_, map}
 use mathlib.Core.Path.{_≡_, refl, sym, ap, _∙_}
 use native.Mathlib.Nat.{min-eq-left, min-le-left, min-le-right, le-min}
 use native.Mathlib.Omega.{arith}
-use lib.Dec.{leb, eqb}
+use lib.Dec.{leb}
 use lib.ListN.{length, take, drop, length-map}
 use lib.Seq.{sets, sets-eq, take-at, length-take-le, length-sets}
 use borrow.Author.Tests.{eq-eqb, le-leb, lt-leb, leb-true, leb-false}
@@ -16,10 +16,10 @@ use Rattle.entries.specs.declared.Line.the-variants.{Other, Says}
 use Rattle.entries.specs.Form as form
 use Rattle.texts.specs.declared.Told.{Told}
 use Rattle.texts.specs.declared.Told.the-variants.{Unreadable, Lines}
-use Rattle.texts.specs.Form.{lines, says, readable, leading, entries, last, told, Closed, Close, whole}
+use Rattle.texts.specs.Form.{codesOf, widthsOf, kindsOf, categoriesOf, lines, says, readable, leading, entries, last, told, Closed, Close, whole}
 use Rattle.laws.specs.Rows.{Given, first}
 use Rattle.shapes.specs.Joining.{lineTypes, actionsOf}
-use Rattle.lines.specs.Held.{Setting, Line, Left, After, lettersOf, settingOf, lineOf}
+use Rattle.lines.specs.Held.{Setting, Line, After, lettersOf, settingOf, lineOf}
 use Rattle.lines.specs.Joined.{knownLetters, refusal, joinedLine, joinAfter}
 use Rattle.printing.specs.Printed.{printed, unreadableText, refusedText}
 use Rattle.printing.specs.Writing.{Written, Wrote, filled}
@@ -149,16 +149,16 @@ module _ (text c w t g : List ℕ) (hc : limit ≤ length c) (hw : limit ≤ len
   said = entries (lines text)
 
   abbrev codes : List ℕ
-  codes = sets c 0 (map (λ (e : Entry). e .code) said)
+  codes = sets c 0 (codesOf said)
 
   abbrev widths : List ℕ
-  widths = sets w 0 (map (λ (e : Entry). e .width) said)
+  widths = sets w 0 (widthsOf said)
 
   abbrev types : List ℕ
-  types = sets t 0 (map (λ (e : Entry). e .kind) said)
+  types = sets t 0 (kindsOf said)
 
   abbrev categories : List ℕ
-  categories = sets g 0 (map (λ (e : Entry). e .category) said)
+  categories = sets g 0 (categoriesOf said)
 
   full : room codes widths types categories ≡ limit
   full = room-full codes widths types categories (simp length-sets hc) (simp length-sets hw) (simp length-sets ht) (simp length-sets hg)
@@ -197,7 +197,3 @@ pub answered :
     (x : Told) (c′ w′ t′ g′ out : List ℕ) {y : Written} → y ≡ filled out (answerText x c′ w′ t′ g′)
     → (y ≡ filled out (answerText x c′ w′ t′ g′)) × ((text c w t g : List ℕ) → limit ≤ length c → limit ≤ length w → limit ≤ length t → limit ≤ length g → Close x c′ w′ t′ g′ ≡ whole text c w t g → y ≡ filled out (output text))
 answered x c′ w′ t′ g′ out e = (e, λ text c w t g hc hw ht hg r. e ∙ ap (filled out) (read-answer text c w t g hc hw ht hg x c′ w′ t′ g′ r))
-
--- The statement allows one answer and one content of the memory.
-pub answer-once : {z : Written} {out out′ : List ℕ} {r r′ : ℕ} → Wrote out r ≡ z → Wrote out′ r′ ≡ z → (out ≡ out′) × (r ≡ r′)
-answer-once p q = (cc, cc)

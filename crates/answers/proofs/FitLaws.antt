@@ -1,4 +1,4 @@
--- All that is printed of a text fits 8,448 bytes, whatever the text: a row has at most 16, there are at most 512 of them, and the heading.
+-- All that is printed of a text fits `longest` bytes, whatever the text: a row has at most 16, there are at most 512 of them, and the heading has 16.
 -- Assumes nothing.
 use Prim.Native.Nat.{ℕ, zero, suc, _+_, _*_, _/_, _%_, _≤_, _<_, min}
 use mathlib.Core.Bool.{Bool, true, false, cond, _&&_, and-eq-true-iff, false≢true}
@@ -15,7 +15,7 @@ use Rattle.entries.specs.declared.Entry.{Entry}
 use Rattle.entries.specs.declared.Line.{Line}
 use Rattle.entries.specs.declared.Line.the-variants.{Other, Says}
 use Rattle.entries.specs.Form.{fields, isCode, isNumber, allDigits, value, held, lineOf}
-use Rattle.texts.specs.Form.{lines, readable, leading, entries}
+use Rattle.texts.specs.Form.{codesOf, widthsOf, kindsOf, categoriesOf, lines, readable, leading, entries}
 use Rattle.refusals.specs.Columns.{atMost}
 use Rattle.letters.specs.Actions.{none}
 use Rattle.letters.specs.Types.{U}
@@ -25,7 +25,7 @@ use Rattle.lines.specs.Held.{lettersOf}
 use Rattle.lines.specs.Joined.{knownLetters}
 use Rattle.printing.specs.Printed.{glyph, numeral, places, decimal, names, nameOf, row, rows, heading, printed, unreadableText, refusedText}
 use Rattle.printing.specs.Writing.{Wrote, filled}
-use Rattle.answers.specs.Output.{limit, lineText, entryText, output}
+use Rattle.answers.specs.Output.{limit, longest, lineText, entryText, output}
 
 length-numeral : (base w n : ℕ) → length (numeral base w n) ≡ w
 length-numeral base zero n = refl
@@ -94,13 +94,13 @@ line-six (c ∷ (t ∷ (g ∷ []))) = go (isCode c && (isNumber t && isNumber g)
     go false e = tt
 line-six (c ∷ (t ∷ (g ∷ (x ∷ xs)))) = tt
 
-widths-six : (ls : List (List ℕ)) → atMost 6 (map (λ (e : Entry). e .width) (entries ls)) ≡ true
+widths-six : (ls : List (List ℕ)) → atMost 6 (widthsOf (entries ls)) ≡ true
 widths-six [] = refl
 widths-six (l ∷ ls) = go (lineOf (fields l)) (line-six (fields l)) (widths-six ls)
   where
     go :
-        (x : Line) → Six x → atMost 6 (map (λ (e : Entry). e .width) (entries ls)) ≡ true
-        → atMost 6 (map (λ (e : Entry). e .width) (leading x (entries ls))) ≡ true
+        (x : Line) → Six x → atMost 6 (widthsOf (entries ls)) ≡ true
+        → atMost 6 (widthsOf (leading x (entries ls))) ≡ true
     go Other h ih = refl
     go (Says e) h ih = simp (le-leb (e .width) 6 h) ih
 
@@ -113,40 +113,37 @@ entries-few (l ∷ ls) = go (lineOf (fields l)) (entries-few ls)
     go (Says e) ih = omega arith
 
 -- ---- all that is printed
-abbrev most : ℕ
-most = 8448
-
-choice-fits : (b : Bool) (x y : List ℕ) → length x ≤ most → length y ≤ most → length (cond b x y) ≤ most
+choice-fits : (b : Bool) (x y : List ℕ) → length x ≤ longest → length y ≤ longest → length (cond b x y) ≤ longest
 choice-fits true x y hx hy = hx
 choice-fits false x y hx hy = hy
 
 printed-fits :
-    (cs ws xs : List ℕ) → length cs ≤ limit → atMost 6 ws ≡ true → atMost none xs ≡ true → length (printed cs ws xs) ≤ most
+    (cs ws xs : List ℕ) → length cs ≤ limit → atMost 6 ws ≡ true → atMost none xs ≡ true → length (printed cs ws xs) ≤ longest
 unfolding printed
 printed-fits cs ws xs h hw hx = omega (arith, length-append heading (rows 0 cs ws xs), rows-fit 0 cs ws xs (omega arith) hw hx)
 
-refused-fits : (k : ℕ) → k < 10 → length (refusedText k) ≤ most
+refused-fits : (k : ℕ) → k < 10 → length (refusedText k) ≤ longest
 unfolding refusedText places
-refused-fits k h = leb→le _ _ (below 10 (λ n. leb (length (refusedText n)) most) tt k h)
+refused-fits k h = leb→le _ _ (below 10 (λ n. leb (length (refusedText n)) longest) tt k h)
 
-entries-fit : (es : List Entry) → length es ≤ limit → atMost 6 (map (λ (e : Entry). e .width) es) ≡ true → length (entryText es) ≤ most
+entries-fit : (es : List Entry) → length es ≤ limit → atMost 6 (widthsOf es) ≡ true → length (entryText es) ≤ longest
 unfolding lineText
 entries-fit es h hw =
-    let codes = map (λ (e : Entry). e .code) es in
-    let types = map (λ (e : Entry). e .kind) es in
-    let categories = map (λ (e : Entry). e .category) es in
+    let codes = codesOf es in
+    let types = kindsOf es in
+    let categories = categoriesOf es in
     let few : length codes ≤ limit = omega (arith, length-map es (λ (e : Entry). e .code)) in
     choice-fits (knownLetters (lettersOf types categories)) _ (refusedText 3) (printed-fits codes _ _ few hw (each-most U (lineTypes types categories) U)) (refused-fits 3 (omega arith))
 
-pub output-fits : (text : List ℕ) → length (output text) ≤ most
+pub output-fits : (text : List ℕ) → length (output text) ≤ longest
 unfolding output
 output-fits text = choice-fits (readable (lines text)) _ unreadableText (go (leb (length (lines text)) limit) refl) (omega arith)
   where
-    go : (b : Bool) → leb (length (lines text)) limit ≡ b → length (cond b (entryText (entries (lines text))) (refusedText 2)) ≤ most
+    go : (b : Bool) → leb (length (lines text)) limit ≡ b → length (cond b (entryText (entries (lines text))) (refusedText 2)) ≤ longest
     go true e = entries-fit (entries (lines text)) (omega (arith, leb-true (length (lines text)) limit e, entries-few (lines text))) (widths-six (lines text))
     go false e = refused-fits 2 (omega arith)
 
 -- so memory of that length has all of it, and the answer says its length
-pub filled-whole : (out text : List ℕ) → most ≤ length out → filled out (output text) ≡ Wrote (sets out 0 (output text)) (length (output text))
+pub filled-whole : (out text : List ℕ) → longest ≤ length out → filled out (output text) ≡ Wrote (sets out 0 (output text)) (length (output text))
 filled-whole out text h =
     ap (Wrote (sets out 0 (output text))) (min-eq-left {n = length (output text)} {m = length out} (omega (arith, output-fits text)))

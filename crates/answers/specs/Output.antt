@@ -1,11 +1,13 @@
 -- What document 01's program `joinline` prints of a text, from its first byte to its last: "A line of other form prints `unreadable`; else over 512 lines
 -- print `refused 2`; else another refusal likewise, each alone. Empty input prints the heading."
 --   limit       the lines of a text at most
+--   longest     the bytes that are printed at most
 --   lineText    what is printed of a line in columns
 --   entryText   what is printed of entries
 --   output      what is printed of a text
 --   room        how many records columns hold
---   answerText  what is printed of columns that a text was read into
+--   linesText, answerText   what is printed of columns that a text was read into
+--   Even        columns that can be joined
 -- Assumes nothing.
 use Prim.Native.Nat.{ℕ, _≤_, min}
 use mathlib.Core.Path.{_≡_}
@@ -16,7 +18,7 @@ use lib.ListN.{length, take}
 use Rattle.entries.specs.declared.Entry.{Entry}
 use Rattle.texts.specs.declared.Told.{Told}
 use Rattle.texts.specs.declared.Told.the-variants.{Unreadable, Lines}
-use Rattle.texts.specs.Form.{lines, readable, entries}
+use Rattle.texts.specs.Form.{codesOf, widthsOf, kindsOf, categoriesOf, lines, readable, entries}
 use Rattle.shapes.specs.Joining.{lineTypes, actionsOf}
 use Rattle.lines.specs.Held.{lettersOf}
 use Rattle.lines.specs.Joined.{knownLetters}
@@ -25,6 +27,10 @@ use Rattle.printing.specs.Printed.{printed, unreadableText, refusedText}
 -- "over 512 lines".
 abbrev pub limit : ℕ
 limit = 512
+
+-- Memory that always has room for what is printed: the heading, and 512 rows of at most 16 bytes.
+abbrev pub longest : ℕ
+longest = 8208
 
 -- What is printed of a line in columns of codes, of how many digits each was typed with, of types and of categories: refusal 3 where a type or a category is
 -- none, else its rows. It is joined without contexts, and is not Mongolian.
@@ -35,7 +41,7 @@ lineText codes widths types categories =
 -- What is printed of entries.
 abbrev pub entryText : List Entry → List ℕ
 entryText es =
-    lineText (map (λ (e : Entry). e .code) es) (map (λ (e : Entry). e .width) es) (map (λ (e : Entry). e .kind) es) (map (λ (e : Entry). e .category) es)
+    lineText (codesOf es) (widthsOf es) (kindsOf es) (categoriesOf es)
 
 -- What is printed of a text.
 unfoldable pub output : List ℕ → List ℕ

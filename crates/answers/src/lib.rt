@@ -8,6 +8,9 @@ ghost use Rattle.printing.specs.Writing.{Wrote, filled};
 ghost use Rattle.answers.specs.Output.{lineText, output, linesText, answerText, Even};
 use texts::Told;
 
+// Lines of a text, at most.
+const LIMIT: usize = 512;
+
 fn shorter(a: usize, b: usize) -> usize
     ensures { λ r. ⌜ r ≡ min a b ⌝ }
 {
@@ -66,7 +69,7 @@ fn lined(
     ensures { λ r. ⌜ Wrote (now (out .exit)) r ≡ filled (now (out .entry)) (linesText n (now (codes .entry)) (now (widths .entry)) (now (types .entry)) (now (cats .entry))) ⌝ }
 {
     let most = shorter(
-        512,
+        LIMIT,
         shorter(
             shorter(codes.len(), widths.len()),
             shorter(types.len(), cats.len()),

@@ -1,14 +1,13 @@
 -- The promise of `joinline` holds.
 -- Assumes nothing.
 use mathlib.Core.Path.{_≡_, refl, sym, ap, _∙_}
-use mathlib.Core.List.{List, [], _∷_, _++_, flatten}
-use Prim.Native.Nat.{ℕ, _≤_}
+use mathlib.Core.List.{List, [], _∷_, flatten}
+use Prim.Native.Nat.{ℕ}
 use native.Mathlib.Omega.{arith}
 use Rattle.entries.specs.Steps.{start}
 use Rattle.texts.specs.Steps.{Held, Hold, readOn, closed}
 use Rattle.texts.proofs.TextLaws.{Short, read-append, read-whole}
 use Rattle.printing.specs.Writing.{filled}
-use Rattle.answers.specs.Output.{output}
 use Rattle.answers.proofs.AnswerLaws.{read-answer}
 use Rattle.answers.proofs.FitLaws.{filled-whole}
 use Rattle.demands.specs.Program.{readAll, Prints}

@@ -1,5 +1,5 @@
 -- The worked examples that document 01 marks with a star, in its order, as one list: `Example` an input and what is printed for it;
--- `Gives` that a definition gives it; `Each` that all do; `Starred` the promise.
+-- `Gives` that a definition gives it; `Each` that all of a list do; `examples` the list; `Starred` the promise.
 -- Assumes nothing.
 use mathlib.Core.Path.{_≡_}
 use mathlib.Core.List.{List, [], _∷_}

@@ -1,18 +1,20 @@
 -- What joining promises: `UnicodeLetter`, `UnicodeLine` that it is Unicode's rule where no letter has rules of its own; `Local` what an action
--- depends on. And what `lines::join_line` does with every line: `Joining` its statement; `OneAnswer`, `RefusedStays`, `AcceptedJoins`.
+-- depends on. And what `lines::join_line` does with every line: `Joining` its statement; `OneAnswer`, `RefusedStays`,
+-- `SmallestNumber`, `AcceptedJoins`.
 -- Assumes nothing.
 use mathlib.Core.Path.{_≡_}
 use mathlib.Core.Bool.{true}
 use mathlib.Core.List.{List, _∷_, _++_}
-use Prim.Native.Nat.{ℕ}
+use Prim.Native.Nat.{ℕ, _≤_}
 use lib.ListN.{length, getD}
+use Rattle.laws.specs.Rows.{Has}
 use Rattle.refusals.specs.declared.Verdict.{Verdict}
 use Rattle.refusals.specs.Numbers.{said}
 use Rattle.letters.specs.Types.{U}
 use Rattle.shapes.specs.Joining.{form, latest, nearest, eachBetween, actionsOf}
 use Rattle.shapes.specs.Unicode.{unicodeForm, common, allCommon}
 use Rattle.lines.specs.Held.{Setting, Line, After}
-use Rattle.lines.specs.Joined.{refusal, joinedLine, joinAfter}
+use Rattle.lines.specs.Joined.{joinRows, joinedLine, joinAfter}
 
 -- Where no Alaph, Dalath or Rish is among a letter t and its neighbours p and n, its action is that of Unicode's rule.
 abbrev pub UnicodeLetter : Type 0
@@ -43,6 +45,13 @@ OneAnswer = (s : Setting) (l : Line) (r q : Verdict) (m n : Line) → Joining s 
 abbrev pub RefusedStays : Type 0
 RefusedStays = (s : Setting) (l : Line) (r : Verdict) (m : Line) → Joining s l r m → (said r ≡ 0 → ⊥) → m ≡ l
 
--- One that is accepted leaves the joined line; it is accepted exactly when no row of the table of refusals applies.
+-- Where several refusals apply, the smallest number is given: the number is that of a row of the table that applies, and no row of a smaller
+-- one does. So a call is accepted exactly when no row applies.
+abbrev pub SmallestNumber : Type 0
+SmallestNumber =
+    (s : Setting) (l : Line) (r : Verdict) (m : Line) → Joining s l r m
+    → ((said r ≡ 0 → ⊥) → Has (joinRows s l) (said r) true) × ((n : ℕ) → Has (joinRows s l) n true → said r ≤ n)
+
+-- One that is accepted leaves the joined line.
 abbrev pub AcceptedJoins : Type 0
-AcceptedJoins = (s : Setting) (l : Line) (r : Verdict) (m : Line) → Joining s l r m → (said r ≡ refusal s l) × (said r ≡ 0 → m ≡ joinedLine s l)
+AcceptedJoins = (s : Setting) (l : Line) (r : Verdict) (m : Line) → Joining s l r m → said r ≡ 0 → m ≡ joinedLine s l

@@ -1,7 +1,7 @@
 -- A line, read byte by byte: at its end its entry is held where it has the form, and else the text is of other form.
 -- Assumes nothing.
-use Prim.Native.Nat.{ℕ, zero, suc, _+_, min}
-use mathlib.Core.Bool.{Bool, true, false, cond, _&&_, _||_, and-true, false≢true}
+use Prim.Native.Nat.{ℕ}
+use mathlib.Core.Bool.{Bool, true, false, cond, _&&_, and-true, false≢true}
 use mathlib.Core.List.{List, [], _∷_}
 use mathlib.Core.Path.{_≡_, refl, sym, ap, _∙_}
 use lib.Dec.{leb, eqb}

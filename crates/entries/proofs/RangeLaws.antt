@@ -1,6 +1,6 @@
 -- A number that is held as 255 passes the same bounds: whatever is refused with 3 is refused, and nothing else.
 -- Assumes nothing.
-use Prim.Native.Nat.{ℕ, _<_, _≤_, min}
+use Prim.Native.Nat.{ℕ, _<_, min}
 use mathlib.Core.Bool.{Bool, true, false}
 use mathlib.Core.Path.{_≡_, refl, sym, _∙_}
 use native.Mathlib.Nat.{min-eq-left, min-eq-right}

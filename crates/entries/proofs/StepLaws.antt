@@ -1,14 +1,14 @@
 -- Where a digit may follow, nothing wraps.
 -- Assumes nothing.
-use Prim.Native.Nat.{ℕ, _+_, _*_, _≤_, _<_}
-use mathlib.Core.Bool.{Bool, true, false, cond, not, _&&_, and-eq-true-iff}
+use Prim.Native.Nat.{ℕ, _*_, _≤_, _<_}
+use mathlib.Core.Bool.{Bool, true, false, cond, and-eq-true-iff}
 use mathlib.Core.Path.{_≡_}
 use native.Mathlib.Omega.{arith}
 use native.Mathlib.Nat.{mul-le-mul}
-use lib.Dec.{leb, ltb, eqb}
+use lib.Dec.{ltb, eqb}
 use borrow.Author.Tests.{ltb-true}
 use Rattle.entries.specs.declared.State.{State}
-use Rattle.entries.specs.Steps.{base, most, leads, follows}
+use Rattle.entries.specs.Steps.{base, most, follows}
 
 pub base-few : (k : ℕ) → base k ≤ 16
 base-few k = go (eqb k 0)

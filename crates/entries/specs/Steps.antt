@@ -1,5 +1,5 @@
 -- The state of a reader within a line: how each byte but a line end changes it, and what it says at the end of the line. What this says of
--- a whole line is `lineOf` of Form (proofs/LineLaws), so that a user need not read it.
+-- a whole line is `lineOf` of Form (proofs/LineLaws): a user reads that.
 --   base, most              the digits of each field
 --   start, other            the state before a line, and that of a text with a line of other form
 --   leads, follows          a zero that no digit may follow; whether a digit may follow

@@ -36,12 +36,12 @@ fn run(codes: &mut [u32], widths: &mut [u8], types: &mut [u8], cats: &mut [u8], 
     say(out, n);
 }
 
-// Lends the columns, and nothing more. Whatever is printed fits 8,448 bytes (crate `answers`, FitLaws).
+// Lends the columns, and nothing more. Whatever is printed fits 8,208 bytes (crate `answers`, FitLaws).
 fn main() {
     let mut codes = [0u32; 512];
     let mut widths = [0u8; 512];
     let mut types = [0u8; 512];
     let mut cats = [0u8; 512];
-    let mut out = [0u8; 8448];
+    let mut out = [0u8; 8208];
     run(&mut codes, &mut widths, &mut types, &mut cats, &mut out);
 }

@@ -8,17 +8,12 @@ use Prim.Native.Nat.{ℕ, zero, suc, _<_, _≤_}
 use native.Mathlib.Omega.{arith}
 use borrow.Author.Tests.{ltb-true, ltb-false, eqb-true, eqb-false, lt-ltb}
 use lib.Dec.{eqb, ltb}
-use Rattle.laws.specs.Rows.{Row, Given, first, sooner}
+use Rattle.laws.specs.Rows.{Row, Given, Has, here, there, first, sooner}
 
 -- each row's number is above the one before it, and the first one's above k
 abbrev pub rise : ℕ → List Row → Bool
 rise k [] = true
 rise k (Given n t ∷ rows) = ltb k n && rise n rows
-
--- the row of the number n says t
-pub data Has : List Row → ℕ → Bool → Type 0 where
-  here : {n : ℕ} {t : Bool} {rows : List Row} → Has (Given n t ∷ rows) n t
-  there : {n m : ℕ} {t u : Bool} {rows : List Row} → Has rows n t → Has (Given m u ∷ rows) n t
 
 -- rows that rise, taken apart
 rise-parts : (k n : ℕ) (rows : List Row) → (ltb k n && rise n rows) ≡ true → (k < n) × (rise n rows ≡ true)

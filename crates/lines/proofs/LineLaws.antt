@@ -4,12 +4,12 @@
 use mathlib.Core.Path.{_≡_, refl, sym, ap, _∙_}
 use mathlib.Core.Bool.{Bool, true, false, cond, not, _&&_, and-eq-true-iff}
 use mathlib.Core.List.{List, [], _∷_}
-use Prim.Native.Nat.{ℕ}
+use Prim.Native.Nat.{ℕ, _≤_}
 use borrow.Author.Tests.{eqb-true, eqb-false, eq-eqb, ne-eqb, not-false}
 use lib.Dec.{eqb}
 use lib.ListN.{length}
-use Rattle.laws.specs.Rows.{Given}
-use Rattle.laws.proofs.RowLaws.{first-none}
+use Rattle.laws.specs.Rows.{Given, Has, first}
+use Rattle.laws.proofs.RowLaws.{first-none, first-applies, first-smallest}
 use Rattle.refusals.specs.declared.Verdict.{Verdict}
 use Rattle.refusals.specs.Numbers.{said}
 use Rattle.refusals.proofs.VerdictLaws.{same-said}
@@ -18,7 +18,7 @@ use Rattle.letters.specs.Types.{X}
 use Rattle.letters.specs.Categories.{Zs}
 use Rattle.joining.specs.Joinable.{Joinable}
 use Rattle.lines.specs.Held.{Letters, Setting, Line, Left, After}
-use Rattle.lines.specs.Joined.{sized, evenLetters, evenLine, limited, knownLetters, refusal, joinedLine, joinAfter}
+use Rattle.lines.specs.Joined.{sized, evenLetters, evenLine, lineLimit, contextLimit, limited, knownLetters, joinRows, refusal, joinedLine, joinAfter}
 
 -- two tests that both passed
 passed : (a b : Bool) → (a && b) ≡ true → (a ≡ true) × (b ≡ true)
@@ -49,7 +49,7 @@ unfolding refusal
 accepted s l h =
     let n = length (l .letters .types) in
     let contexts-even = evenLetters (s .pre) && evenLetters (s .post) in
-    let short = limited 4096 (l .letters) && (limited 64 (s .pre) && limited 64 (s .post)) in
+    let short = limited lineLimit (l .letters) && (limited contextLimit (s .pre) && limited contextLimit (s .post)) in
     let contexts-known = knownLetters (s .pre) && knownLetters (s .post) in
     let known = knownLetters (l .letters) && contexts-known in
     let uneven-not = first-none 0 (not (evenLine l && contexts-even)) (Given 2 (not short) ∷ Given 3 (not known) ∷ []) h in
@@ -110,7 +110,14 @@ pub left-stays : (s : Setting) (l : Line) (r : Verdict) (m : Line) → After (sa
 left-stays s l r m e = left-cases s l (said r) m e .1
 
 pub left-accepted :
-    (s : Setting) (l : Line) (r : Verdict) (m : Line) → After (said r) m ≡ joinAfter s l → (said r ≡ refusal s l) × (said r ≡ 0 → m ≡ joinedLine s l)
-left-accepted s l r m e =
-    let c = left-cases s l (said r) m e in
-    (c .0, c .2)
+    (s : Setting) (l : Line) (r : Verdict) (m : Line) → After (said r) m ≡ joinAfter s l → said r ≡ 0 → m ≡ joinedLine s l
+left-accepted s l r m e = left-cases s l (said r) m e .2
+
+-- the number given is that of a row that applies, and none of a smaller number does
+pub left-smallest :
+    (s : Setting) (l : Line) (r : Verdict) (m : Line) → After (said r) m ≡ joinAfter s l
+    → ((said r ≡ 0 → ⊥) → Has (joinRows s l) (said r) true) × ((n : ℕ) → Has (joinRows s l) n true → said r ≤ n)
+unfolding refusal
+left-smallest s l r m e =
+    let same : said r ≡ first (joinRows s l) = left-cases s l (said r) m e .0 in
+    (λ d. rw same (first-applies (joinRows s l) (λ z. d (same ∙ z))), λ n h. rw same (first-smallest 0 refl h))

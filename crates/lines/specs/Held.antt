@@ -1,5 +1,5 @@
 -- A held line and what it stands in: `Letters` the types of letters as they are lent; `Setting` all that a line is joined by; `Line` its
--- columns; `Left` what a call leaves of it; `settingOf`, `lineOf` both from the parameters of a call.
+-- columns; `Left` what a call leaves of it; `lettersOf`, `settingOf`, `lineOf` these from the parameters of a call.
 -- Assumes nothing.
 use mathlib.Core.Bool.{Bool}
 use mathlib.Core.List.{List}

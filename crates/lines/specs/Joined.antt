@@ -1,13 +1,13 @@
--- Joining a line (document 01, "Joining"): `joinedActions`, `joinedLine` what joining gives; `evenLine`, `evenLetters`, `knownLetters` what is asked
--- of a line and its contexts; `refusedWith`, `refusal` the number that joining is refused with; `joinAfter` what the call answers and leaves, of
--- every input.
+-- Joining a line (document 01, "Joining"): `typesOf`, `joinedActions`, `joinedLine` what joining gives; `sized`, `evenLetters`, `evenLine`, `limited`,
+-- `knownLetters` what is asked of a line and its contexts; `lineLimit`, `contextLimit` how long they may be; `refusalRows`, `joinRows`, `refusal` when joining
+-- is refused, and with which number; `joinAfter` what the call answers and leaves, of every input.
 -- Assumes nothing.
 use mathlib.Core.Bool.{Bool, cond, not, _&&_}
 use mathlib.Core.List.{List, [], _∷_}
 use Prim.Native.Nat.{ℕ}
 use lib.Dec.{eqb, leb}
 use lib.ListN.{length}
-use Rattle.laws.specs.Rows.{Given, first}
+use Rattle.laws.specs.Rows.{Row, Given, first}
 use Rattle.refusals.specs.Columns.{atMost}
 use Rattle.letters.specs.Types.{X}
 use Rattle.letters.specs.Categories.{Zs}
@@ -59,18 +59,27 @@ limited most letters = leb (length (letters .types)) most
 abbrev pub knownLetters : Letters → Bool
 knownLetters letters = atMost X (letters .types) && atMost Zs (letters .categories)
 
--- the rows of document 01's table that joining uses, for a line of which it is known whether its columns are even, and its contexts
-abbrev pub refusedWith : Bool → Letters → Letters → Letters → ℕ
-refusedWith lineEven letters pre post =
-    first
-    (Given 1 (not (lineEven && (evenLetters pre && evenLetters post))) ∷
-    Given 2 (not (limited 4096 letters && (limited 64 pre && limited 64 post))) ∷
-    Given 3 (not (knownLetters letters && (knownLetters pre && knownLetters post))) ∷
-    [])
+-- "a line has over 4,096 records, a context over 64"
+abbrev pub lineLimit : ℕ
+lineLimit = 4096
 
--- the number that joining a line is refused with, 0 if it is not
+abbrev pub contextLimit : ℕ
+contextLimit = 64
+
+-- the rows of document 01's table that joining uses, for a line of which it is known whether its columns are even, and its contexts
+abbrev pub refusalRows : Bool → Letters → Letters → Letters → List Row
+refusalRows lineEven letters pre post =
+    Given 1 (not (lineEven && (evenLetters pre && evenLetters post))) ∷
+    Given 2 (not (limited lineLimit letters && (limited contextLimit pre && limited contextLimit post))) ∷
+    Given 3 (not (knownLetters letters && (knownLetters pre && knownLetters post))) ∷
+    []
+
+-- the rows of a line in its setting, and the number that joining is refused with, 0 if it is not
+abbrev pub joinRows : Setting → Line → List Row
+joinRows s l = refusalRows (evenLine l) (l .letters) (s .pre) (s .post)
+
 unfoldable pub refusal : Setting → Line → ℕ
-refusal s l = refusedWith (evenLine l) (l .letters) (s .pre) (s .post)
+refusal s l = first (joinRows s l)
 
 -- the call: a refusal gives its number and leaves the line as it was
 abbrev pub joinAfter : Setting → Line → Left

@@ -2,10 +2,11 @@
 ghost use mathlib.Core.Path.{_≡_};
 ghost use mathlib.Core.Bool.{cond};
 ghost use lib.ListN.{length};
+ghost use Rattle.laws.specs.Rows.{first};
 ghost use Rattle.refusals.specs.Numbers.{said};
 ghost use Rattle.selectors.specs.Selectors.{settled};
 ghost use Rattle.lines.specs.Held.{lettersOf, settingOf, lineOf, After};
-ghost use Rattle.lines.specs.Joined.{knownLetters, refusedWith, refusal, joinedLine, joinAfter};
+ghost use Rattle.lines.specs.Joined.{knownLetters, refusalRows, refusal, joinedLine, joinAfter};
 use letters::Category;
 use letters::JoiningType;
 use refusals::Refusal;
@@ -33,7 +34,7 @@ pub fn refused(
     post_types: &[u8],
     post_cats: &[u8],
 ) -> Verdict
-    ensures { λ r. ⌜ said r ≡ refusedWith «line_even» (lettersOf (now (types .entry)) (now (cats .entry))) (lettersOf (now («pre_types» .entry)) (now («pre_cats» .entry))) (lettersOf (now («post_types» .entry)) (now («post_cats» .entry))) ⌝ }
+    ensures { λ r. ⌜ said r ≡ first (refusalRows «line_even» (lettersOf (now (types .entry)) (now (cats .entry))) (lettersOf (now («pre_types» .entry)) (now («pre_cats» .entry))) (lettersOf (now («post_types» .entry)) (now («post_cats» .entry)))) ⌝ }
 {
     let even = line_even
         & ((pre_types.len() == pre_cats.len()) & (post_types.len() == post_cats.len()));

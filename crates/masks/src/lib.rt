@@ -3,14 +3,15 @@ ghost use mathlib.Core.Path.{_≡_};
 ghost use lib.ListN.{length};
 ghost use Rattle.masks.specs.Masks.{mask};
 ghost use Rattle.masks.specs.Masks.{masks as masksOf};
+use letters::Action;
 
 // The mask of a record. Past the seven entries there is mask 0.
-pub fn mask_of(features: &[u32; 7], base: u32, action: u8) -> u32
+pub fn mask_of(features: &[u32; 7], base: u32, action: Action) -> u32
     requires { ⌜ length (now features) ≡ 7 ⌝ }
-    ensures { λ r. ⌜ r ≡ mask (now (features .entry)) base action ⌝ }
+    ensures { λ r. ⌜ r ≡ mask (now (features .entry)) base (action .0) ⌝ }
 {
-    if action < 7 {
-        return base | features[action as usize];
+    if action.0 < 7 {
+        return base | features[action.0 as usize];
     }
     base
 }
@@ -23,7 +24,7 @@ fn fill(features: &[u32; 7], base: &[u32], actions: &[u8], masks: &mut [u32])
 {
     let mut i = 0;
     while i < base.len() {
-        masks[i] = mask_of(features, base[i], actions[i]);
+        masks[i] = mask_of(features, base[i], Action(actions[i]));
         i += 1;
     }
 }

@@ -1,6 +1,6 @@
 // What `joinline` prints, written to lent memory: the heading and a row for each letter of a joined line, or why there is none.
 //
-// Bytes that do not fit are left out. What is printed of a text always fits 8,448 bytes (crate `answers`, FitLaws).
+// Bytes that do not fit are left out. What is printed of a text always fits 8,208 bytes (crate `answers`, FitLaws).
 ghost use mathlib.Core.Path.{_≡_};
 ghost use Prim.Native.Nat.{_<_, _≤_};
 ghost use Rattle.printing.specs.Printed.{glyph as glyphOf, numeral as numeralOf, places as placesOf, nameOf, nameFrom, row as rowOf, rows as rowsOf, heading as headingOf, printed, unreadableText, refusedWord, refusedText};

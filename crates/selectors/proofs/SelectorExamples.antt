@@ -1,7 +1,7 @@
 -- Settled actions of small lines, computed.
 -- Assumes nothing.
 use mathlib.Core.Path.{_≡_, refl}
-use mathlib.Core.List.{List, [], _∷_}
+use mathlib.Core.List.{[], _∷_}
 use Rattle.selectors.specs.Selectors.{settled}
 
 -- document 01's: isol, a selector, the vowel separator

@@ -2,12 +2,13 @@
 ghost use mathlib.Core.Path.{_≡_};
 ghost use lib.ListN.{length};
 ghost use Rattle.selectors.specs.Selectors.{selector, settled};
+use letters::Code;
 
 // Whether a code is one of the four selectors.
-pub fn is_selector(c: u32) -> bool
-    ensures { λ r. ⌜ r ≡ selector c ⌝ }
+pub fn is_selector(c: Code) -> bool
+    ensures { λ r. ⌜ r ≡ selector (c .0) ⌝ }
 {
-    (c == 0x180B) | ((c == 0x180C) | ((c == 0x180D) | (c == 0x180F)))
+    (c.0 == 0x180B) | ((c.0 == 0x180C) | ((c.0 == 0x180D) | (c.0 == 0x180F)))
 }
 
 // Settles the actions of a joined line. A record is looked at once the one before it is settled, so the action there is the one to take.
@@ -17,7 +18,7 @@ pub fn mongolian_variation_selectors(codes: &[u32], actions: &mut [u8])
 {
     let mut i = 0;
     while i + 1 < codes.len() {
-        if is_selector(codes[i + 1]) {
+        if is_selector(Code(codes[i + 1])) {
             actions[i + 1] = actions[i];
             i += 1;
         } else {

@@ -1,6 +1,6 @@
 -- Reading a text byte by byte, in pieces however cut, and closing it gives what the definition by lines says of the whole text: `read-whole`.
 -- Assumes nothing.
-use Prim.Native.Nat.{ℕ, zero, suc, _+_, _≤_, _<_, min}
+use Prim.Native.Nat.{ℕ, suc, _+_, _≤_, _<_, min}
 use mathlib.Core.Bool.{Bool, true, false, cond, _&&_, and-false}
 use mathlib.Core.List.{List, [], _∷_, _++_, map}
 use mathlib.Core.Path.{_≡_, refl, sym, ap, subst, _∙_}
@@ -10,7 +10,7 @@ use native.Mathlib.Omega.{arith}
 use lib.Dec.{leb, ltb, eqb}
 use lib.ListN.{length, set, length-set}
 use lib.Seq.{sets, set-out}
-use borrow.Author.Tests.{lt-ltb, le-ltb, ltb-true, ltb-false, ne-eqb}
+use borrow.Author.Tests.{ltb-true, ltb-false, ne-eqb}
 use Rattle.entries.specs.declared.State.{State}
 use Rattle.texts.specs.declared.Told.{Told}
 use Rattle.texts.specs.declared.Told.the-variants.{Unreadable, Lines}
@@ -19,8 +19,8 @@ use Rattle.entries.specs.declared.Line.{Line}
 use Rattle.entries.specs.declared.Line.the-variants.{Other, Says}
 use Rattle.entries.specs.Form.{before, fields, digit, lineOf}
 use Rattle.entries.specs.Steps.{start, other, follows, grown, typed, beforeType, beforeCategory, parted, within, readIn, saidBy}
-use Rattle.texts.specs.Form.{lines, says, readable, leading, entries, last, told, Closed, Close, whole}
-use Rattle.texts.specs.Steps.{up, Held, Hold, after, ended, inLine, stepped, readOn, finished, toldBy, closedBy, closed}
+use Rattle.texts.specs.Form.{codesOf, widthsOf, kindsOf, categoriesOf, lines, says, readable, leading, entries, last, Closed, Close, whole}
+use Rattle.texts.specs.Steps.{up, Held, Hold, after, ended, inLine, stepped, readOn, finished, closedBy, closed}
 use Rattle.entries.proofs.LineLaws.{outcome, line-read, state-other}
 
 -- However a text is cut.
@@ -152,9 +152,9 @@ lines-other c w t g (l ∷ ls) = ap (λ (h : Held). runLines h ls) (line-other c
 -- What lines come to behind n others, of which the columns hold what they can.
 abbrev from : ℕ → Bool → ℕ → List Entry → List ℕ → List ℕ → List ℕ → List ℕ → Closed
 from n r m es c w t g =
-    Close (cond r (Lines (min m last)) Unreadable) (sets c n (map (λ (e : Entry). e .code) es)) (sets w n (map (λ (e : Entry). e .width) es))
-    (sets t n (map (λ (e : Entry). e .kind) es))
-    (sets g n (map (λ (e : Entry). e .category) es))
+    Close (cond r (Lines (min m last)) Unreadable) (sets c n (codesOf es)) (sets w n (widthsOf es))
+    (sets t n (kindsOf es))
+    (sets g n (categoriesOf es))
 
 lines-run :
     (ls : List (List ℕ)) (n : ℕ) (c w t g : List ℕ) → Short c w t g

@@ -4,6 +4,7 @@
 --   leading, entries            what they say
 --   last                        the largest number that lines are counted to
 --   told, Closed, whole         what a text comes to, and the columns that its entries are held in
+--   codesOf, widthsOf, kindsOf, categoriesOf   these columns
 -- Assumes nothing.
 use Prim.Native.Nat.{ℕ, min}
 use mathlib.Core.Bool.{Bool, true, false, cond, _&&_}
@@ -52,6 +53,19 @@ last = 18446744073709551615
 abbrev pub told : List ℕ → Told
 told text = cond (readable (lines text)) (Lines (min (length (lines text)) last)) Unreadable
 
+-- The columns of entries: codes, with how many digits each was typed, types, categories.
+abbrev pub codesOf : List Entry → List ℕ
+codesOf es = map (λ (e : Entry). e .code) es
+
+abbrev pub widthsOf : List Entry → List ℕ
+widthsOf es = map (λ (e : Entry). e .width) es
+
+abbrev pub kindsOf : List Entry → List ℕ
+kindsOf es = map (λ (e : Entry). e .kind) es
+
+abbrev pub categoriesOf : List Entry → List ℕ
+categoriesOf es = map (λ (e : Entry). e .category) es
+
 -- What a text comes to, and the columns afterwards: codes, widths, types, categories.
 pub data Closed : Type 0 where
   Close : Told → (codes widths types categories : List ℕ) → Closed
@@ -61,6 +75,6 @@ pub data Closed : Type 0 where
 unfoldable pub whole : List ℕ → List ℕ → List ℕ → List ℕ → List ℕ → Closed
 whole text codes widths types categories =
     let es : List Entry = entries (lines text) in
-    Close (told text) (sets codes 0 (map (λ (e : Entry). e .code) es)) (sets widths 0 (map (λ (e : Entry). e .width) es))
-    (sets types 0 (map (λ (e : Entry). e .kind) es))
-    (sets categories 0 (map (λ (e : Entry). e .category) es))
+    Close (told text) (sets codes 0 (codesOf es)) (sets widths 0 (widthsOf es))
+    (sets types 0 (kindsOf es))
+    (sets categories 0 (categoriesOf es))

@@ -1,5 +1,5 @@
 -- The state of a reader that has read a part of a text, and its columns: how each byte changes them, and what they come to at the end of the text.
--- What this says of a whole text is the definition by lines (`whole` of Form; proofs/TextLaws), so that a user need not read it.
+-- What this says of a whole text is the definition by lines (`whole` of Form; proofs/TextLaws): a user reads that.
 --   up                      one more line
 --   Held                    a state and the columns
 --   after, ended            a line end

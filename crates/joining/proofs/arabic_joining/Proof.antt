@@ -1,6 +1,6 @@
 -- `joining::arabic_joining` meets its contract: the walk keeps what `Walking` says.
 -- Assumes nothing.
-use mathlib.Core.Path.{_∙_, sym}
+use mathlib.Core.Path.{_∙_}
 use Prim.Native.Nat.{_-_}
 use native.Mathlib.Omega.{arith}
 use borrow.Author.Needs.{needs}

@@ -7,7 +7,7 @@ use borrow.Author.Needs.{needs}
 use Rattle.laws.specs.Rows.{Given, first, sooner}
 use Rattle.laws.proofs.RowLaws.{sooner-first}
 use Rattle.lines.specs.Held.{lettersOf}
-use Rattle.lines.specs.Joined.{evenLetters, limited, knownLetters}
+use Rattle.lines.specs.Joined.{evenLetters, lineLimit, contextLimit, limited, knownLetters}
 use Rattle.lines.proofs.refused.Statement.{statement}
 use Rattle.lines.proofs.refused.Tie as tie
 
@@ -48,7 +48,7 @@ returns c =
     let post = lettersOf (a .post-types .now) (a .post-cats .now) in
     rw
     (c .sooner2 .ensures, c .before .sooner .ensures, c .before .before .unless3 .ensures, c .before .before .before .unless2 .ensures, c .before .before .before .before .unless .ensures, c .before .before .before .before .before .known-letters3 .ensures, c .before .before .before .before .before .before .known-letters2 .ensures, c .before .before .before .before .before .before .before .known-letters .ensures)
-    (table (not (a .line-even && (evenLetters pre && evenLetters post))) (not (limited 4096 letters && (limited 64 pre && limited 64 post)))
+    (table (not (a .line-even && (evenLetters pre && evenLetters post))) (not (limited lineLimit letters && (limited contextLimit pre && limited contextLimit post)))
     (not (knownLetters letters && (knownLetters pre && knownLetters post))))
 
 pub refused-spec : {M : Type 1} → statement M

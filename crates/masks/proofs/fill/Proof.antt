@@ -26,8 +26,8 @@ mul-mask-of c = search needs
 shared-slice-read-mask-of : tie.Need-shared-slice-read-mask-of Inv-loop μ-loop
 shared-slice-read-mask-of c = search needs
 
-shared-slice-read-mask-of-2 : tie.Need-shared-slice-read-mask-of-2 Inv-loop μ-loop
-shared-slice-read-mask-of-2 c = search needs
+shared-slice-read-t12 : tie.Need-shared-slice-read-t12 Inv-loop μ-loop
+shared-slice-read-t12 c = search needs
 
 mask-of-requires : tie.Need-mask-of-requires Inv-loop μ-loop
 mask-of-requires c κs = search needs
@@ -72,7 +72,7 @@ fill-spec =
     loop-holds
     mul-mask-of
     shared-slice-read-mask-of
-    shared-slice-read-mask-of-2
+    shared-slice-read-t12
     mask-of-requires
     mul-masks
     slice-write-masks

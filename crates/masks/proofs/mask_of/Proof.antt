@@ -8,6 +8,9 @@ use Rattle.masks.proofs.MaskLaws.{mask-past}
 use Rattle.masks.proofs.mask_of.Statement.{statement}
 use Rattle.masks.proofs.mask_of.Tie as tie
 
+cast-result : tie.Need-cast-result
+cast-result c = search needs
+
 mul-result : tie.Need-mul-result
 mul-result c = search needs
 
@@ -20,8 +23,8 @@ returns c = refl
 
 returns-2 : tie.Need-returns-2
 returns-2 c =
-    let a = c .before .args in
-    sym (mask-past (a .features .now) (a .base) (a .action) (omega (arith, c .before .pre)))
+    let a = c .before .before .args in
+    sym (mask-past (a .features .now) (a .base) (a .action .0) (omega (arith, c .before .before .pre)))
 
 pub mask-of-spec : {M : Type 1} → statement M
-mask-of-spec = tie.close (tie.spec mul-result element-copy-out-result returns returns-2)
+mask-of-spec = tie.close (tie.spec cast-result mul-result element-copy-out-result returns returns-2)

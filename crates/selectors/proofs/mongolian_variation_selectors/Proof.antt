@@ -23,14 +23,14 @@ loop-holds c = (search needs, c .before .before .pre, refl)
 add-loop : tie.Need-add-loop Inv-loop μ-loop
 add-loop c = search needs
 
-add-is-selector : tie.Need-add-is-selector Inv-loop μ-loop
-add-is-selector c = search needs
+add-t4 : tie.Need-add-t4 Inv-loop μ-loop
+add-t4 c = search needs
 
-mul-is-selector : tie.Need-mul-is-selector Inv-loop μ-loop
-mul-is-selector c = search needs
+mul-t5 : tie.Need-mul-t5 Inv-loop μ-loop
+mul-t5 c = search needs
 
-shared-slice-read-is-selector : tie.Need-shared-slice-read-is-selector Inv-loop μ-loop
-shared-slice-read-is-selector c = search needs
+shared-slice-read-t9 : tie.Need-shared-slice-read-t9 Inv-loop μ-loop
+shared-slice-read-t9 c = search needs
 
 is-selector-requires : tie.Need-is-selector-requires Inv-loop μ-loop
 is-selector-requires c κs = search needs
@@ -93,9 +93,9 @@ mongolian-variation-selectors-spec =
     μ-loop
     loop-holds
     add-loop
-    add-is-selector
-    mul-is-selector
-    shared-slice-read-is-selector
+    add-t4
+    mul-t5
+    shared-slice-read-t9
     is-selector-requires
     slice-read-actions
     add-actions

@@ -1,7 +1,7 @@
 -- `texts::read_on` meets its contract: what the whole piece makes of the state that was handed over, the bytes that are left make of the present one.
 -- Assumes nothing.
 use Prim.Native.Nat.{_-_, _≤_}
-use mathlib.Core.Path.{_≡_, refl, sym, ap, _∙_}
+use mathlib.Core.Path.{_≡_, sym, ap, _∙_}
 use borrow.Author.Needs.{needs}
 use lib.ListN.{length, drop, drop-of-length-le}
 use Rattle.texts.specs.Steps.{Hold, readOn}

@@ -5,7 +5,7 @@
 use mathlib.Core.Path.{_≡_}
 use mathlib.Core.Bool.{true}
 use mathlib.Core.List.{List, _∷_, _++_}
-use Prim.Native.Nat.{ℕ, _≤_}
+use Prim.Native.Nat.{ℕ, _<_, _≤_}
 use lib.ListN.{length, getD}
 use Rattle.laws.specs.Rows.{Has}
 use Rattle.refusals.specs.declared.Verdict.{Verdict}
@@ -45,12 +45,12 @@ OneAnswer = (s : Setting) (l : Line) (r q : Verdict) (m n : Line) → Joining s 
 abbrev pub RefusedStays : Type 0
 RefusedStays = (s : Setting) (l : Line) (r : Verdict) (m : Line) → Joining s l r m → (said r ≡ 0 → ⊥) → m ≡ l
 
--- Where several refusals apply, the smallest number is given: the number is that of a row of the table that applies, and no row of a smaller
--- one does. So a call is accepted exactly when no row applies.
+-- Where several refusals apply, the smallest number is given: a number that is given is that of a row of the table that applies; and where a row
+-- applies, a number is given, and no larger one. So a call is accepted exactly when no row applies.
 abbrev pub SmallestNumber : Type 0
 SmallestNumber =
     (s : Setting) (l : Line) (r : Verdict) (m : Line) → Joining s l r m
-    → ((said r ≡ 0 → ⊥) → Has (joinRows s l) (said r) true) × ((n : ℕ) → Has (joinRows s l) n true → said r ≤ n)
+    → ((said r ≡ 0 → ⊥) → Has (joinRows s l) (said r) true) × ((n : ℕ) → Has (joinRows s l) n true → (0 < said r) × (said r ≤ n))
 
 -- One that is accepted leaves the joined line.
 abbrev pub AcceptedJoins : Type 0

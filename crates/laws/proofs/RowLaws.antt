@@ -33,6 +33,11 @@ first-smallest k {rows = Given m true ∷ rows} r here = omega arith
 first-smallest k {rows = Given m true ∷ rows} r (there h) = omega (arith, above m (rise-parts k m rows r .1) h)
 first-smallest k {rows = Given m false ∷ rows} r (there h) = first-smallest m (rise-parts k m rows r .1) h
 
+-- where a row applies, a number is given
+pub first-given : (k : ℕ) {n : ℕ} {rows : List Row} → rise k rows ≡ true → Has rows n true → 0 < first rows
+first-given k {rows = Given m true ∷ rows} r h = omega (arith, rise-parts k m rows r .0)
+first-given k {rows = Given m false ∷ rows} r (there h) = first-given m (rise-parts k m rows r .1) h
+
 -- the number given is that of a row that applies
 pub first-applies : (rows : List Row) → (first rows ≡ 0 → ⊥) → Has rows (first rows) true
 first-applies [] e = absurd (e refl)

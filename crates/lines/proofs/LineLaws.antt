@@ -4,12 +4,12 @@
 use mathlib.Core.Path.{_≡_, refl, sym, ap, _∙_}
 use mathlib.Core.Bool.{Bool, true, false, cond, not, _&&_, and-eq-true-iff}
 use mathlib.Core.List.{List, [], _∷_}
-use Prim.Native.Nat.{ℕ, _≤_}
+use Prim.Native.Nat.{ℕ, _<_, _≤_}
 use borrow.Author.Tests.{eqb-true, eqb-false, eq-eqb, ne-eqb, not-false}
 use lib.Dec.{eqb}
 use lib.ListN.{length}
 use Rattle.laws.specs.Rows.{Given, Has, first}
-use Rattle.laws.proofs.RowLaws.{first-none, first-applies, first-smallest}
+use Rattle.laws.proofs.RowLaws.{first-none, first-given, first-applies, first-smallest}
 use Rattle.refusals.specs.declared.Verdict.{Verdict}
 use Rattle.refusals.specs.Numbers.{said}
 use Rattle.refusals.proofs.VerdictLaws.{same-said}
@@ -116,8 +116,8 @@ left-accepted s l r m e = left-cases s l (said r) m e .2
 -- the number given is that of a row that applies, and none of a smaller number does
 pub left-smallest :
     (s : Setting) (l : Line) (r : Verdict) (m : Line) → After (said r) m ≡ joinAfter s l
-    → ((said r ≡ 0 → ⊥) → Has (joinRows s l) (said r) true) × ((n : ℕ) → Has (joinRows s l) n true → said r ≤ n)
+    → ((said r ≡ 0 → ⊥) → Has (joinRows s l) (said r) true) × ((n : ℕ) → Has (joinRows s l) n true → (0 < said r) × (said r ≤ n))
 unfolding refusal
 left-smallest s l r m e =
     let same : said r ≡ first (joinRows s l) = left-cases s l (said r) m e .0 in
-    (λ d. rw same (first-applies (joinRows s l) (λ z. d (same ∙ z))), λ n h. rw same (first-smallest 0 refl h))
+    (λ d. rw same (first-applies (joinRows s l) (λ z. d (same ∙ z))), λ n h. rw same (first-given 0 refl h, first-smallest 0 refl h))

@@ -1,10 +1,11 @@
 -- The promises of joining hold.
 -- Assumes nothing.
-use mathlib.Core.Path.{sym, _∙_}
+use mathlib.Core.Path.{refl, sym, _∙_}
 use Rattle.shapes.specs.Joining.{form}
 use Rattle.shapes.proofs.LocalityLaws.{each-between}
 use Rattle.shapes.proofs.UnicodeLaws.{form-unicode, actions-unicode}
-use Rattle.lines.specs.Joined.{joinAfter}
+use Rattle.refusals.specs.Numbers.{said}
+use Rattle.lines.specs.Joined.{joinRows, refusal, joinedLine, joinAfter}
 use Rattle.lines.proofs.LineLaws.{same-left, left-stays, left-smallest, left-accepted}
 use Rattle.demands.specs.Joining.{UnicodeLetter, UnicodeLine, Local, OneAnswer, RefusedStays, SmallestNumber, AcceptedJoins}
 
@@ -22,10 +23,11 @@ pub one-answer : OneAnswer
 one-answer s l r q m n = same-left r q m n (joinAfter s l)
 
 pub refused-stays : RefusedStays
-refused-stays = left-stays
+refused-stays s l r m = left-stays (refusal s l) l (joinedLine s l) (said r) m
 
 pub smallest-number : SmallestNumber
-smallest-number = left-smallest
+unfolding refusal
+smallest-number s l r m = left-smallest (joinRows s l) refl l (joinedLine s l) (said r) m
 
 pub accepted-joins : AcceptedJoins
-accepted-joins s l r m e = left-accepted s l r m e
+accepted-joins s l r m = left-accepted (refusal s l) l (joinedLine s l) (said r) m

@@ -13,7 +13,7 @@ use letters::Category;
 use letters::JoiningType;
 
 // The type that a letter has in the end.
-fn type_at(types: &[u8], cats: &[u8], i: usize) -> u8
+pub fn type_at(types: &[u8], cats: &[u8], i: usize) -> u8
     requires { ⌜ (i < length (now types)) × (i < length (now cats)) ⌝ }
     ensures { λ r. ⌜ r ≡ resolved (getD (now (types .entry)) i 0) (getD (now (cats .entry)) i 0) ⌝ }
 {
@@ -22,7 +22,7 @@ fn type_at(types: &[u8], cats: &[u8], i: usize) -> u8
 }
 
 // The first letter of a context that is not transparent, or U.
-fn first_letter(types: &[u8], cats: &[u8]) -> u8
+pub fn first_letter(types: &[u8], cats: &[u8]) -> u8
     requires { ⌜ Joinable (now types) (now cats) ⌝ }
     ensures { λ r. ⌜ r ≡ nearest (lineTypes (now (types .entry)) (now (cats .entry))) U ⌝ }
 {

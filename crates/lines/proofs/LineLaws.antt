@@ -1,5 +1,5 @@
--- What is known of a line that is not refused (`accepted`), what the call leaves where it is refused and where it is not, and that the
--- statement of a call on a line allows one answer and one line (`same-left`).
+-- What is known of a line that is not refused (`accepted`, `no-row`); then of every call on a line: what it leaves where it is refused and where it is not, and that
+-- its statement allows one answer and one line (`same-left`).
 -- Assumes nothing.
 use mathlib.Core.Path.{_≡_, refl, sym, ap, _∙_}
 use mathlib.Core.Bool.{Bool, true, false, cond, not, _&&_, and-eq-true-iff}
@@ -8,8 +8,8 @@ use Prim.Native.Nat.{ℕ, _<_, _≤_}
 use borrow.Author.Tests.{eqb-true, eqb-false, eq-eqb, ne-eqb, not-false}
 use lib.Dec.{eqb}
 use lib.ListN.{length}
-use Rattle.laws.specs.Rows.{Given, Has, first}
-use Rattle.laws.proofs.RowLaws.{first-none, first-given, first-applies, first-smallest}
+use Rattle.laws.specs.Rows.{Row, Given, Has, first}
+use Rattle.laws.proofs.RowLaws.{rise, first-none, first-given, first-applies, first-smallest}
 use Rattle.refusals.specs.declared.Verdict.{Verdict}
 use Rattle.refusals.specs.Numbers.{said}
 use Rattle.refusals.proofs.VerdictLaws.{same-said}
@@ -17,8 +17,8 @@ use Rattle.refusals.specs.Columns.{atMost}
 use Rattle.letters.specs.Types.{X}
 use Rattle.letters.specs.Categories.{Zs}
 use Rattle.joining.specs.Joinable.{Joinable}
-use Rattle.lines.specs.Held.{Letters, Setting, Line, Left, After}
-use Rattle.lines.specs.Joined.{sized, evenLetters, evenLine, lineLimit, contextLimit, limited, knownLetters, joinRows, refusal, joinedLine, joinAfter}
+use Rattle.lines.specs.Held.{Letters, Setting, Line, Left, After, leaves}
+use Rattle.lines.specs.Joined.{sized, evenLetters, evenLine, lineLimit, contextLimit, limited, knownLetters, uneven, tooLong, strange, refusalRows, refusal}
 
 -- two tests that both passed
 passed : (a b : Bool) → (a && b) ≡ true → (a ≡ true) × (b ≡ true)
@@ -44,20 +44,15 @@ pub record Accepted (s : Setting) (l : Line) : Type 0 where
   pub actions : length (l .actions) ≡ length (l .letters .types)
   pub masks : length (l .masks) ≡ length (l .letters .types)
 
-pub accepted : (s : Setting) (l : Line) → refusal s l ≡ 0 → Accepted s l
-unfolding refusal
-accepted s l h =
+-- of the rows that joining uses, none applies
+pub no-row : (s : Setting) (l : Line) → uneven (evenLine l) (s .pre) (s .post) ≡ false → strange (l .letters) (s .pre) (s .post) ≡ false → Accepted s l
+no-row s l uneven-not strange-not =
     let n = length (l .letters .types) in
     let contexts-even = evenLetters (s .pre) && evenLetters (s .post) in
-    let short = limited lineLimit (l .letters) && (limited contextLimit (s .pre) && limited contextLimit (s .post)) in
     let contexts-known = knownLetters (s .pre) && knownLetters (s .post) in
-    let known = knownLetters (l .letters) && contexts-known in
-    let uneven-not = first-none 0 (not (evenLine l && contexts-even)) (Given 2 (not short) ∷ Given 3 (not known) ∷ []) h in
-    let long-not = first-none 1 (not short) (Given 3 (not known) ∷ []) (uneven-not .1) in
-    let strange-not = first-none 2 (not known) [] (long-not .1) in
-    let e = passed (evenLine l) contexts-even (not-false _ (uneven-not .0)) in
+    let e = passed (evenLine l) contexts-even (not-false _ uneven-not) in
     let contexts-e = passed (evenLetters (s .pre)) (evenLetters (s .post)) (e .1) in
-    let k = passed (knownLetters (l .letters)) contexts-known (not-false _ (strange-not .0)) in
+    let k = passed (knownLetters (l .letters)) contexts-known (not-false _ strange-not) in
     let contexts-k = passed (knownLetters (s .pre)) (knownLetters (s .post)) (k .1) in
     let m = sized n (l .masks) in
     let a = sized n (l .actions) && m in
@@ -76,12 +71,21 @@ accepted s l h =
       masks = sized-length n (l .masks) (from-actions .1);
     }
 
--- what the call leaves, by the number that its tests give
-pub left-refused : (s : Setting) (l : Line) (n : ℕ) → n ≡ refusal s l → (n ≡ 0 → ⊥) → After n l ≡ joinAfter s l
-left-refused s l n e d = simp (ne-eqb (refusal s l) 0 (λ z. d (e ∙ z))) (ap (λ (k : ℕ). After k l) e)
+pub accepted : (s : Setting) (l : Line) → refusal s l ≡ 0 → Accepted s l
+unfolding refusal
+accepted s l h =
+    let long = tooLong (l .letters) (s .pre) (s .post) in
+    let odd = strange (l .letters) (s .pre) (s .post) in
+    let uneven-not = first-none 0 (uneven (evenLine l) (s .pre) (s .post)) (Given 2 long ∷ Given 3 odd ∷ []) h in
+    let long-not = first-none 1 long (Given 3 odd ∷ []) (uneven-not .1) in
+    no-row s l (uneven-not .0) (first-none 2 odd [] (long-not .1) .0)
 
-pub left-joined : (s : Setting) (l m : Line) (n : ℕ) → n ≡ refusal s l → n ≡ 0 → m ≡ joinedLine s l → After n m ≡ joinAfter s l
-left-joined s l m n e z j = simp (eq-eqb (refusal s l) 0 (sym e ∙ z)) (rw (z, j))
+-- what a call leaves, by the number that its tests give
+pub left-refused : (k : ℕ) (old new : Line) (n : ℕ) → n ≡ k → (n ≡ 0 → ⊥) → After n old ≡ leaves k old new
+left-refused k old new n e d = simp (ne-eqb k 0 (λ z. d (e ∙ z))) (ap (λ (i : ℕ). After i old) e)
+
+pub left-done : (k : ℕ) (old new : Line) (n : ℕ) (m : Line) → n ≡ k → n ≡ 0 → m ≡ new → After n m ≡ leaves k old new
+left-done k old new n m e z j = simp (eq-eqb k 0 (sym e ∙ z)) (rw (z, j))
 
 abbrev numberLeft : Left → ℕ
 numberLeft (After n l) = n
@@ -95,29 +99,28 @@ same-left r q l m x e f =
     let g = e ∙ sym f in
     (same-said r q (ap numberLeft g), ap lineLeft g)
 
--- what a statement allows: a refusal with the line as it was, or the joined line
-left-cases :
-    (s : Setting) (l : Line) (n : ℕ) (m : Line) → After n m ≡ joinAfter s l → (n ≡ refusal s l) × ((n ≡ 0 → ⊥) → m ≡ l) × (n ≡ 0 → m ≡ joinedLine s l)
-left-cases s l n m = go (eqb (refusal s l) 0) refl
-  where
-    go :
-        (b : Bool) → eqb (refusal s l) 0 ≡ b → After n m ≡ cond b (After 0 (joinedLine s l)) (After (refusal s l) l)
-        → (n ≡ refusal s l) × ((n ≡ 0 → ⊥) → m ≡ l) × (n ≡ 0 → m ≡ joinedLine s l)
-    go true z e = (ap numberLeft e ∙ sym (eqb-true (refusal s l) 0 z), λ d. absurd (d (ap numberLeft e)), λ _. ap lineLeft e)
-    go false z e = (ap numberLeft e, λ _. ap lineLeft e, λ d. absurd (eqb-false (refusal s l) 0 z (sym (ap numberLeft e) ∙ d)))
+-- what a statement allows: a refusal with the line as it was, or 0 with the new one
+module _ (k : ℕ) (old new : Line) (n : ℕ) (m : Line) where
+  left-cases : After n m ≡ leaves k old new → (n ≡ k) × ((n ≡ 0 → ⊥) → m ≡ old) × (n ≡ 0 → m ≡ new)
+  left-cases = go (eqb k 0) refl
+    where
+      go : (b : Bool) → eqb k 0 ≡ b → After n m ≡ cond b (After 0 new) (After k old) → (n ≡ k) × ((n ≡ 0 → ⊥) → m ≡ old) × (n ≡ 0 → m ≡ new)
+      go true z e = (ap numberLeft e ∙ sym (eqb-true k 0 z), λ d. absurd (d (ap numberLeft e)), λ _. ap lineLeft e)
+      go false z e = (ap numberLeft e, λ _. ap lineLeft e, λ d. absurd (eqb-false k 0 z (sym (ap numberLeft e) ∙ d)))
 
-pub left-stays : (s : Setting) (l : Line) (r : Verdict) (m : Line) → After (said r) m ≡ joinAfter s l → (said r ≡ 0 → ⊥) → m ≡ l
-left-stays s l r m e = left-cases s l (said r) m e .1
+  pub left-number : After n m ≡ leaves k old new → n ≡ k
+  left-number e = left-cases e .0
 
-pub left-accepted :
-    (s : Setting) (l : Line) (r : Verdict) (m : Line) → After (said r) m ≡ joinAfter s l → said r ≡ 0 → m ≡ joinedLine s l
-left-accepted s l r m e = left-cases s l (said r) m e .2
+  pub left-stays : After n m ≡ leaves k old new → (n ≡ 0 → ⊥) → m ≡ old
+  left-stays e = left-cases e .1
+
+  pub left-accepted : After n m ≡ leaves k old new → n ≡ 0 → m ≡ new
+  left-accepted e = left-cases e .2
 
 -- the number given is that of a row that applies, and none of a smaller number does
 pub left-smallest :
-    (s : Setting) (l : Line) (r : Verdict) (m : Line) → After (said r) m ≡ joinAfter s l
-    → ((said r ≡ 0 → ⊥) → Has (joinRows s l) (said r) true) × ((n : ℕ) → Has (joinRows s l) n true → (0 < said r) × (said r ≤ n))
-unfolding refusal
-left-smallest s l r m e =
-    let same : said r ≡ first (joinRows s l) = left-cases s l (said r) m e .0 in
-    (λ d. rw same (first-applies (joinRows s l) (λ z. d (same ∙ z))), λ n h. rw same (first-given 0 refl h, first-smallest 0 refl h))
+    (rows : List Row) → rise 0 rows ≡ true → (old new : Line) (n : ℕ) (m : Line) → After n m ≡ leaves (first rows) old new
+    → ((n ≡ 0 → ⊥) → Has rows n true) × ((k : ℕ) → Has rows k true → (0 < n) × (n ≤ k))
+left-smallest rows up old new n m e =
+    let same : n ≡ first rows = left-number (first rows) old new n m e in
+    (λ d. rw same (first-applies rows (λ z. d (same ∙ z))), λ k h. rw same (first-given 0 up h, first-smallest 0 up h))

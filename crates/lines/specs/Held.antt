@@ -1,9 +1,10 @@
--- A held line and what it stands in: `Letters` the types of letters as they are lent; `Setting` all that a line is joined by; `Line` its
--- columns; `Left` what a call leaves of it; `lettersOf`, `settingOf`, `lineOf` these from the parameters of a call.
+-- A held line and what it stands in: `Letters` the types of letters as they are lent; `Setting` all that a line is joined by; `Frame` what
+-- a setting comes to; `Line` a line's columns; `Left`, `leaves` what a call leaves of it; `lettersOf`, `settingOf`, `frameBy`, `lineOf` these from the parameters of a call.
 -- Assumes nothing.
-use mathlib.Core.Bool.{Bool}
+use mathlib.Core.Bool.{Bool, cond}
 use mathlib.Core.List.{List}
 use Prim.Native.Nat.{ℕ}
+use lib.Dec.{eqb}
 
 -- letters, by a column of types and its column of categories
 pub record Letters : Type 0 where
@@ -14,6 +15,13 @@ pub record Letters : Type 0 where
 pub record Setting : Type 0 where
   pub pre : Letters
   pub post : Letters
+  pub features : List ℕ
+  pub mongolian : Bool
+
+-- what a setting comes to: the types of the letters next to a line on both sides, the seven feature masks, whether it is Mongolian
+pub record Frame : Type 0 where
+  pub before : ℕ
+  pub behind : ℕ
   pub features : List ℕ
   pub mongolian : Bool
 
@@ -29,12 +37,19 @@ pub record Line : Type 0 where
 pub data Left : Type 0 where
   After : (number : ℕ) → (line : Line) → Left
 
+-- a call that a number refuses leaves the line as it was; one that 0 accepts leaves a new one
+abbrev pub leaves : ℕ → Line → Line → Left
+leaves number old new = cond (eqb number 0) (After 0 new) (After number old)
+
 abbrev pub lettersOf : List ℕ → List ℕ → Letters
 lettersOf types categories = record { types = types; categories = categories }
 
 abbrev pub settingOf : List ℕ → List ℕ → List ℕ → List ℕ → List ℕ → Bool → Setting
 settingOf preTypes preCategories postTypes postCategories features mongolian =
     record { pre = lettersOf preTypes preCategories; post = lettersOf postTypes postCategories; features = features; mongolian = mongolian }
+
+abbrev pub frameBy : ℕ → ℕ → List ℕ → Bool → Frame
+frameBy before behind features mongolian = record { before = before; behind = behind; features = features; mongolian = mongolian }
 
 abbrev pub lineOf : List ℕ → List ℕ → List ℕ → List ℕ → List ℕ → List ℕ → Line
 lineOf codes types categories base actions masks =

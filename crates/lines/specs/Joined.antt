@@ -1,6 +1,6 @@
--- Joining a line (document 01, "Joining"): `typesOf`, `joinedActions`, `joinedLine` what joining gives; `sized`, `evenLetters`, `evenLine`, `limited`,
--- `knownLetters` what is asked of a line and its contexts; `lineLimit`, `contextLimit` how long they may be; `refusalRows`, `joinRows`, `refusal` when joining
--- is refused, and with which number; `joinAfter` what the call answers and leaves, of every input.
+-- Joining a line (document 01, "Joining"): `typesOf`, `frameOf`, `freshActions`, `freshLine`, `joinedLine` what joining gives; `sized`, `evenLetters`, `evenLine`,
+-- `limited`, `knownLetters` what is asked of a line and its contexts; `lineLimit`, `contextLimit` how long they may be; `uneven`, `tooLong`, `strange`, `refusalRows`,
+-- `joinRows`, `refusal` when joining is refused, and with which number; `joinAfter` what the call answers and leaves, of every input.
 -- Assumes nothing.
 use mathlib.Core.Bool.{Bool, cond, not, _&&_}
 use mathlib.Core.List.{List, [], _∷_}
@@ -9,33 +9,40 @@ use lib.Dec.{eqb, leb}
 use lib.ListN.{length}
 use Rattle.laws.specs.Rows.{Row, Given, first}
 use Rattle.refusals.specs.Columns.{atMost}
-use Rattle.letters.specs.Types.{X}
+use Rattle.letters.specs.Types.{U, X}
 use Rattle.letters.specs.Categories.{Zs}
-use Rattle.shapes.specs.Joining.{lineTypes, actionsOf}
+use Rattle.shapes.specs.Joining.{form, nearest, eachBetween, lineTypes}
 use Rattle.selectors.specs.Selectors.{settled}
 use Rattle.masks.specs.Masks.{masks}
-use Rattle.lines.specs.Held.{Letters, Setting, Line, Left, After}
+use Rattle.lines.specs.Held.{Letters, Setting, Frame, Line, Left, leaves, frameBy}
 
 -- the types that letters have in the end
 abbrev pub typesOf : Letters → List ℕ
 typesOf letters = lineTypes (letters .types) (letters .categories)
 
--- the actions of a line between its contexts; in a Mongolian line the selectors are settled afterwards
-abbrev pub joinedActions : Setting → Line → List ℕ
-joinedActions s l =
-    let joined = actionsOf (typesOf (s .pre)) (typesOf (l .letters)) (typesOf (s .post)) in
-    cond (s .mongolian) (settled (l .codes) joined) joined
+-- next to a line stands the nearest letter of each context that is not transparent; where there is none, U stands for it
+abbrev pub frameOf : Setting → Frame
+frameOf s = frameBy (nearest (typesOf (s .pre)) U) (nearest (typesOf (s .post)) U) (s .features) (s .mongolian)
+
+-- the actions of a line in its frame; in a Mongolian line the selectors are settled afterwards
+abbrev pub freshActions : Frame → Line → List ℕ
+freshActions f l =
+    let joined = eachBetween form (f .before) (typesOf (l .letters)) (f .behind) in
+    cond (f .mongolian) (settled (l .codes) joined) joined
 
 -- the line with these actions and their masks. The actions and masks that it had count for nothing
-abbrev pub joinedLine : Setting → Line → Line
-joinedLine s l =
+abbrev pub freshLine : Frame → Line → Line
+freshLine f l =
     record {
       codes = l .codes;
       letters = l .letters;
       base = l .base;
-      actions = joinedActions s l;
-      masks = masks (s .features) (l .base) (joinedActions s l);
+      actions = freshActions f l;
+      masks = masks (f .features) (l .base) (freshActions f l);
     }
+
+abbrev pub joinedLine : Setting → Line → Line
+joinedLine s = freshLine (frameOf s)
 
 -- a column has n records
 abbrev pub sized : ℕ → List ℕ → Bool
@@ -67,11 +74,20 @@ abbrev pub contextLimit : ℕ
 contextLimit = 64
 
 -- the rows of document 01's table that joining uses, for a line of which it is known whether its columns are even, and its contexts
+abbrev pub uneven : Bool → Letters → Letters → Bool
+uneven lineEven pre post = not (lineEven && (evenLetters pre && evenLetters post))
+
+abbrev pub tooLong : Letters → Letters → Letters → Bool
+tooLong letters pre post = not (limited lineLimit letters && (limited contextLimit pre && limited contextLimit post))
+
+abbrev pub strange : Letters → Letters → Letters → Bool
+strange letters pre post = not (knownLetters letters && (knownLetters pre && knownLetters post))
+
 abbrev pub refusalRows : Bool → Letters → Letters → Letters → List Row
 refusalRows lineEven letters pre post =
-    Given 1 (not (lineEven && (evenLetters pre && evenLetters post))) ∷
-    Given 2 (not (limited lineLimit letters && (limited contextLimit pre && limited contextLimit post))) ∷
-    Given 3 (not (knownLetters letters && (knownLetters pre && knownLetters post))) ∷
+    Given 1 (uneven lineEven pre post) ∷
+    Given 2 (tooLong letters pre post) ∷
+    Given 3 (strange letters pre post) ∷
     []
 
 -- the rows of a line in its setting, and the number that joining is refused with, 0 if it is not
@@ -83,4 +99,4 @@ refusal s l = first (joinRows s l)
 
 -- the call: a refusal gives its number and leaves the line as it was
 abbrev pub joinAfter : Setting → Line → Left
-joinAfter s l = cond (eqb (refusal s l) 0) (After 0 (joinedLine s l)) (After (refusal s l) l)
+joinAfter s l = leaves (refusal s l) l (joinedLine s l)

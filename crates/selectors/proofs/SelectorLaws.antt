@@ -10,7 +10,7 @@ use native.Mathlib.Omega.{arith}
 use lib.ListN.{length, getD, take, drop, set, length-drop, length-set, take-append-drop}
 use lib.Seq.{take-set-le, drop-set-lt, getD-set-same, set-getD}
 use Rattle.laws.proofs.LoopLaws.{drop-next, fill-next}
-use Rattle.selectors.specs.Selectors.{selector, follow, settled}
+use Rattle.selectors.specs.Selectors.{selector, follow, settled, base}
 
 -- ---- a turn of the loop: the record at i is settled, and what is left is settled from it on
 module _ (cs acts : List ℕ) (i : ℕ) (e : length cs ≡ length acts) where
@@ -85,11 +85,6 @@ pub settled-first : (cs acts : List ℕ) → getD (settled cs acts) 0 0 ≡ getD
 settled-first [] acts = refl
 settled-first (c ∷ cs) [] = refl
 settled-first (c ∷ cs) (a ∷ acts) = refl
-
--- where the record stands whose action place k has: the nearest at or before k that is no selector, else the first
-abbrev pub base : List ℕ → ℕ → ℕ
-base cs zero = zero
-base cs (suc k) = cond (selector (getD cs (suc k) 0)) (base cs k) (suc k)
 
 pub base-reaches : (cs : List ℕ) (k : ℕ) → base cs k ≤ k
 base-reaches cs zero = omega arith

@@ -1,10 +1,11 @@
 -- Mongolian variation selectors (document 01, "Joining"): `selector` the four codes; `follow` the actions behind a record;
--- `settled` the actions of a line.
+-- `settled` the actions of a line; `run` how many selectors a list begins with; `base` whose action a place has.
 -- Assumes nothing.
 use mathlib.Core.Bool.{Bool, cond, _||_}
 use mathlib.Core.List.{List, [], _∷_}
-use Prim.Native.Nat.{ℕ}
+use Prim.Native.Nat.{ℕ, zero, suc}
 use lib.Dec.{eqb}
+use lib.ListN.{getD}
 
 -- Mongolian free variation selectors one to three, and four; 180E between them is the vowel separator and is none
 abbrev pub selector : ℕ → Bool
@@ -22,3 +23,13 @@ abbrev pub settled : List ℕ → List ℕ → List ℕ
 settled [] actions = actions
 settled (c ∷ codes) [] = []
 settled (c ∷ codes) (a ∷ actions) = a ∷ follow a codes actions
+
+-- how many selectors a list of codes begins with
+abbrev pub run : List ℕ → ℕ
+run [] = 0
+run (c ∷ codes) = cond (selector c) (suc (run codes)) 0
+
+-- where the record stands whose action place k has: the nearest at or before k that is no selector, else the first
+abbrev pub base : List ℕ → ℕ → ℕ
+base codes zero = zero
+base codes (suc k) = cond (selector (getD codes (suc k) 0)) (base codes k) (suc k)

@@ -4,8 +4,8 @@ use mathlib.Core.Path.{_≡_, sym, _∙_}
 use borrow.Author.Needs.{needs}
 use Rattle.refusals.specs.Numbers.{said}
 use Rattle.lines.specs.Held.{Setting, Line, settingOf, lineOf}
-use Rattle.lines.specs.Joined.{refusal}
-use Rattle.lines.proofs.LineLaws.{left-refused, left-joined}
+use Rattle.lines.specs.Joined.{refusal, joinedLine}
+use Rattle.lines.proofs.LineLaws.{left-refused, left-done}
 use Rattle.lines.proofs.join_line.Statement.{statement}
 use Rattle.lines.proofs.join_line.Tie as tie
 
@@ -30,7 +30,7 @@ number-requires c κs = search needs
 returns : tie.Need-returns
 returns c =
     let s = c .before .before .before .before .before .before .before .before .before .before .before .before .before in
-    left-refused (setting s) (line s) _ (found (c .before)) (λ z. c .if1 .taken (c .before .number .ensures ∙ z))
+    left-refused _ (line s) (joinedLine (setting s) (line s)) _ (found (c .before)) (λ z. c .if1 .taken (c .before .number .ensures ∙ z))
 
 join-accepted-requires : tie.Need-join-accepted-requires
 join-accepted-requires c κs =
@@ -47,7 +47,7 @@ returns-2 : tie.Need-returns-2
 returns-2 c =
     let e = c .before .before .before .before .before .before .before in
     let s = e .before .before .before .before .before .before .before .before .before .before .before .before .before in
-    left-joined (setting s) (line s) _ _ (found (e .before)) (sym (e .before .number .ensures) ∙ e .if1 .left) (c .before .before .before .before .join-accepted .ensures)
+    left-done _ (line s) (joinedLine (setting s) (line s)) _ _ (found (e .before)) (sym (e .before .number .ensures) ∙ e .if1 .left) (c .before .before .before .before .join-accepted .ensures)
 
 pub join-line-spec : {M : Type 1} → statement M
 join-line-spec =

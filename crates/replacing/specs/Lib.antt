@@ -1,0 +1,3 @@
+-- What the contracts of `replacing` cite.
+-- Assumes nothing.
+pub mod Replaced

@@ -1,8 +1,8 @@
 // Mongolian variation selectors: each takes the action of the record before it.
 ghost use mathlib.Core.Path.{_≡_};
-ghost use Prim.Native.Nat.{_+_, _≤_};
+ghost use Prim.Native.Nat.{_+_, _<_, _≤_};
 ghost use lib.ListN.{length, drop};
-ghost use Rattle.selectors.specs.Selectors.{selector, settled, run};
+ghost use Rattle.selectors.specs.Selectors.{selector, settled, run, base};
 use letters::Code;
 
 // Whether a code is one of the four selectors.
@@ -41,4 +41,19 @@ pub fn mongolian_variation_selectors(codes: &[u32], actions: &mut [u8])
             i += 1;
         }
     }
+}
+
+// Where the record stands whose action the one at `k` has. Record 0 is not asked: it keeps its action, whatever its code.
+pub fn base_of(codes: &[u32], k: usize) -> usize
+    requires { ⌜ k < length (now codes) ⌝ }
+    ensures { λ r. ⌜ r ≡ base (now (codes .entry)) k ⌝ }
+{
+    let mut i = k;
+    while 0 < i {
+        if !is_selector(Code(codes[i])) {
+            return i;
+        }
+        i -= 1;
+    }
+    0
 }

@@ -6,7 +6,7 @@ use borrow.Author.Needs.{needs}
 use borrow.Author.Tests.{not-true, not-false}
 use lib.ListN.{length, drop}
 use Rattle.selectors.specs.Selectors.{run}
-use Rattle.selectors.proofs.RunLaws.{run-goes, run-stops, run-ends}
+use Rattle.selectors.proofs.WalkLaws.{run-goes, run-stops, run-ends}
 use Rattle.selectors.proofs.run_end.Statement.{statement}
 use Rattle.selectors.proofs.run_end.Tie as tie
 

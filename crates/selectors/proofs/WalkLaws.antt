@@ -1,4 +1,4 @@
--- Laws of a run of selectors: a turn of the walk over it; how far it reaches.
+-- A turn of the walk over a run of selectors, and that it does not leave the line.
 -- Assumes nothing.
 use mathlib.Core.Path.{_≡_, refl, ap, _∙_}
 use mathlib.Core.Bool.{Bool, true, false, cond}

@@ -9,7 +9,7 @@ use native.Mathlib.Nat.{not-suc-le-zero, le-of-suc-le-suc}
 use native.Mathlib.Omega.{arith}
 use borrow.Author.Tests.{leb-true, eqb-false, le-leb}
 use lib.Dec.{eqb, leb, lit<}
-use lib.ListN.{length, getD, drop, drop-of-length-le}
+use lib.ListN.{length, getD, drop, set, drop-of-length-le}
 use Rattle.laws.proofs.LoopLaws.{drop-next}
 use Rattle.refusals.specs.Columns.{atMost}
 use Rattle.letters.specs.Types.{U, L, R, D, Alaph, DalathRish, T, X, resolved}
@@ -61,6 +61,15 @@ lineTypes-at [] cs k e h = absurd (not-suc-le-zero h)
 lineTypes-at (t ∷ ts) [] k e h = absurd (omega arith)
 lineTypes-at (t ∷ ts) (c ∷ cs) zero e h = refl
 lineTypes-at (t ∷ ts) (c ∷ cs) (suc k) e h = lineTypes-at ts cs k (omega arith) (le-of-suc-le-suc h)
+
+-- a letter stored in both columns
+pub lineTypes-set :
+    (ts cs : List ℕ) (k t c : ℕ) → lineTypes (set ts k t) (set cs k c) ≡ set (lineTypes ts cs) k (resolved t c)
+lineTypes-set [] cs k t c = refl
+lineTypes-set (x ∷ ts) [] zero t c = refl
+lineTypes-set (x ∷ ts) [] (suc k) t c = refl
+lineTypes-set (x ∷ ts) (y ∷ cs) zero t c = refl
+lineTypes-set (x ∷ ts) (y ∷ cs) (suc k) t c = ap (λ (l : List ℕ). resolved x y ∷ l) (lineTypes-set ts cs k t c)
 
 -- what is left of a line at k
 pub lineTypes-next :

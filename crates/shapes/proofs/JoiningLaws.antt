@@ -15,7 +15,7 @@ use Rattle.refusals.specs.Columns.{atMost}
 use Rattle.letters.specs.Types.{U, L, R, D, Alaph, DalathRish, T, X, resolved}
 use Rattle.letters.specs.Actions.{none}
 use Rattle.letters.proofs.LetterLaws.{resolved-below}
-use Rattle.shapes.specs.Joining.{reachesOn, reachesBack, form, nearest, eachBetween, passed, lineTypes}
+use Rattle.shapes.specs.Joining.{reachesOn, reachesBack, alaph, form, nearest, eachBetween, passed, lineTypes}
 
 pub form-transparent : (p n : ℕ) → form p T n ≡ none
 unfolding form
@@ -85,3 +85,16 @@ nearest-below (t ∷ ts) (c ∷ cs) h =
         → cond b (nearest (lineTypes ts cs) U) (resolved t c) < T
     go true e h ih = ih
     go false e h ih = omega (arith, eqb-false (resolved t c) T e)
+
+-- ---- one answer: that of `form_of`, and those of the private functions it is made of
+pub form-once : (p t n : ℕ) {r s : ℕ} → r ≡ form p t n → s ≡ form p t n → r ≡ s
+form-once p t n x y = x ∙ sym y
+
+pub alaph-once : (p : ℕ) (on : Bool) {r s : ℕ} → r ≡ alaph p on → s ≡ alaph p on → r ≡ s
+alaph-once p on x y = x ∙ sym y
+
+pub reachesOn-once : (t : ℕ) {r s : Bool} → r ≡ reachesOn t → s ≡ reachesOn t → r ≡ s
+reachesOn-once t x y = x ∙ sym y
+
+pub reachesBack-once : (t : ℕ) {r s : Bool} → r ≡ reachesBack t → s ≡ reachesBack t → r ≡ s
+reachesBack-once t x y = x ∙ sym y

@@ -1,4 +1,4 @@
--- Joining a line (document 01, "Joining"): `typesOf`, `frameOf`, `freshActions`, `freshLine`, `joinedLine` what joining gives; `sized`, `evenLetters`, `evenLine`,
+-- Joining a line (document 01, "Joining"): `typesOf`, `frameOf`, `actionsBetween`, `freshActions`, `freshLine`, `joinedLine` what joining gives; `sized`, `evenLetters`, `evenLine`,
 -- `limited`, `knownLetters` what is asked of a line and its contexts; `lineLimit`, `contextLimit` how long they may be; `uneven`, `tooLong`, `strange`, `refusalRows`,
 -- `joinRows`, `refusal` when joining is refused, and with which number; `joinAfter` what the call answers and leaves, of every input.
 -- Assumes nothing.
@@ -24,11 +24,15 @@ typesOf letters = lineTypes (letters .types) (letters .categories)
 abbrev pub frameOf : Setting → Frame
 frameOf s = frameBy (nearest (typesOf (s .pre)) U) (nearest (typesOf (s .post)) U) (s .features) (s .mongolian)
 
--- the actions of a line in its frame; in a Mongolian line the selectors are settled afterwards
+-- the actions of letters between two others; in a Mongolian line the selectors are settled afterwards
+abbrev pub actionsBetween : Bool → List ℕ → ℕ → List ℕ → ℕ → List ℕ
+actionsBetween mongolian codes before ts behind =
+    let joined = eachBetween form before ts behind in
+    cond mongolian (settled codes joined) joined
+
+-- the actions of a line in its frame
 abbrev pub freshActions : Frame → Line → List ℕ
-freshActions f l =
-    let joined = eachBetween form (f .before) (typesOf (l .letters)) (f .behind) in
-    cond (f .mongolian) (settled (l .codes) joined) joined
+freshActions f l = actionsBetween (f .mongolian) (l .codes) (f .before) (typesOf (l .letters)) (f .behind)
 
 -- the line with these actions and their masks. The actions and masks that it had count for nothing
 abbrev pub freshLine : Frame → Line → Line

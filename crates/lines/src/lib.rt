@@ -6,7 +6,7 @@ ghost use Rattle.laws.specs.Rows.{first};
 ghost use Rattle.refusals.specs.Numbers.{said};
 ghost use Rattle.selectors.specs.Selectors.{settled};
 ghost use Rattle.lines.specs.Held.{lettersOf, settingOf, lineOf, After};
-ghost use Rattle.lines.specs.Joined.{knownLetters, refusalRows, refusal, joinedLine, joinAfter};
+ghost use Rattle.lines.specs.Joined.{evenLine, knownLetters, refusalRows, refusal, joinedLine, joinAfter};
 use letters::Category;
 use letters::JoiningType;
 use refusals::Refusal;
@@ -22,6 +22,22 @@ fn known_letters(types: &[u8], cats: &[u8]) -> bool
     ensures { λ r. ⌜ r ≡ knownLetters (lettersOf (now (types .entry)) (now (cats .entry))) ⌝ }
 {
     refusals::within(types, JoiningType::X.0) & refusals::within(cats, Category::ZS.0)
+}
+
+// The columns of a line are of one length.
+pub fn even_line(
+    codes: &[u32],
+    types: &[u8],
+    cats: &[u8],
+    base: &[u32],
+    actions: &[u8],
+    masks: &[u32],
+) -> bool
+    ensures { λ r. ⌜ r ≡ evenLine (lineOf (now (codes .entry)) (now (types .entry)) (now (cats .entry)) (now (base .entry)) (now (actions .entry)) (now (masks .entry))) ⌝ }
+{
+    let n = types.len();
+    (n == cats.len())
+        & ((n == codes.len()) & ((n == base.len()) & ((n == actions.len()) & (n == masks.len()))))
 }
 
 // The refusal of a line, of which it is known whether its columns are even, and its contexts.
@@ -106,9 +122,7 @@ pub fn join_line(
 ) -> Verdict
     ensures { λ r. ⌜ After (said r) (lineOf (now (codes .entry)) (now (types .entry)) (now (cats .entry)) (now (base .entry)) (now (actions .exit)) (now (masks .exit))) ≡ joinAfter (settingOf (now («pre_types» .entry)) (now («pre_cats» .entry)) (now («post_types» .entry)) (now («post_cats» .entry)) features mongolian) (lineOf (now (codes .entry)) (now (types .entry)) (now (cats .entry)) (now (base .entry)) (now (actions .entry)) (now (masks .entry))) ⌝ }
 {
-    let n = types.len();
-    let line_even = (n == cats.len())
-        & ((n == codes.len()) & ((n == base.len()) & ((n == actions.len()) & (n == masks.len()))));
+    let line_even = even_line(codes, types, cats, base, actions, masks);
     let verdict = refused(
         line_even,
         types,

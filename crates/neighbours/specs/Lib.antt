@@ -1,2 +1,3 @@
 -- What the contracts of `neighbours` cite.
 -- Assumes nothing.
+pub mod Beside

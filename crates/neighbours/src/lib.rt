@@ -1,1 +1,59 @@
 // Neighbours: the nearest letters on both sides of a place that are not transparent, found by walking outward from it.
+ghost use Prim.Native.Nat.{_≤_};
+ghost use lib.ListN.{length};
+ghost use Rattle.shapes.specs.Joining.{lineTypes};
+ghost use Rattle.joining.specs.Joinable.{Joinable};
+ghost use Rattle.neighbours.specs.Beside.{StandsBefore, StandsFrom};
+use letters::JoiningType;
+
+// A letter of the line and where it stands; past the line there is none, and its type is that of the letter next to the line.
+pub struct Neighbour {
+    pub place: usize,
+    pub letter: u8,
+}
+
+// The nearest letter before place `k`; `before` stands before the line.
+pub fn letter_before(types: &[u8], cats: &[u8], k: usize, before: u8) -> Neighbour
+    requires { ⌜ Joinable (now types) (now cats) ⌝ }
+    requires { ⌜ k ≤ length (now types) ⌝ }
+    ensures { λ r. ⌜ StandsBefore (lineTypes (now (types .entry)) (now (cats .entry))) k before r ⌝ }
+{
+    let mut i = k;
+    while 0 < i {
+        let this_type = joining::type_at(types, cats, i - 1);
+        if this_type != JoiningType::T.0 {
+            return Neighbour {
+                place: i - 1,
+                letter: this_type,
+            };
+        }
+        i -= 1;
+    }
+    Neighbour {
+        place: types.len(),
+        letter: before,
+    }
+}
+
+// The nearest letter from place `k` on; `behind` stands behind the line.
+pub fn letter_from(types: &[u8], cats: &[u8], k: usize, behind: u8) -> Neighbour
+    requires { ⌜ Joinable (now types) (now cats) ⌝ }
+    requires { ⌜ k ≤ length (now types) ⌝ }
+    ensures { λ r. ⌜ StandsFrom (lineTypes (now (types .entry)) (now (cats .entry))) k behind r ⌝ }
+{
+    let mut i = k;
+    while i < types.len() {
+        let this_type = joining::type_at(types, cats, i);
+        if this_type != JoiningType::T.0 {
+            return Neighbour {
+                place: i,
+                letter: this_type,
+            };
+        }
+        i += 1;
+    }
+    Neighbour {
+        place: i,
+        letter: behind,
+    }
+}

@@ -3,3 +3,4 @@
 pub mod RunLaws
 pub mod SelectorLaws
 pub mod SelectorExamples
+pub mod WalkLaws

@@ -4,7 +4,7 @@ use mathlib.Core.Path.{_≡_, refl, sym, ap, _∙_}
 use mathlib.Core.Bool.{Bool, true, false, cond}
 use mathlib.Core.List.{List, [], _∷_, _++_}
 use mathlib.Core.Logic.{⊎-elim}
-use Prim.Native.Nat.{ℕ, zero, suc, _+_, _<_, _≤_}
+use Prim.Native.Nat.{ℕ, zero, suc, _+_, _-_, _<_, _≤_}
 use native.Mathlib.Nat.{le-of-suc-le-suc, eq-or-lt-of-le}
 use native.Mathlib.Omega.{arith}
 use lib.ListN.{length, getD, take, drop, set, length-drop, length-set, take-append-drop}
@@ -126,6 +126,17 @@ settled-at cs acts (suc k) h = settled-next cs acts k h ∙ go (selector (getD c
     go true ih = ih
     go false ih = refl
 
+-- ---- a turn of the walk back to it: past a selector, or the end at a record that is none
+pub base-skips : (cs : List ℕ) (k : ℕ) → 0 < k → selector (getD cs k 0) ≡ true → base cs k ≡ base cs (k - 1)
+base-skips cs zero l e = absurd (omega arith)
+base-skips cs (suc k) l e =
+    let q : k ≡ suc k - 1 = omega arith in
+    simp e (ap (base cs) q)
+
+pub base-here : (cs : List ℕ) (k : ℕ) → 0 < k → selector (getD cs k 0) ≡ false → base cs k ≡ k
+base-here cs zero l e = absurd (omega arith)
+base-here cs (suc k) l e = simp e
+
 -- ---- what a place depends on
 -- the two lines have selectors at the same places from m to k; the first record's code counts for nothing
 abbrev pub Alike : List ℕ → List ℕ → ℕ → ℕ → Type 0
@@ -181,9 +192,12 @@ module _ (d : ℕ) (ds : List ℕ) (b : ℕ) (bs : List ℕ) (none : selector d 
   settled-apart (c ∷ cs) [] e = absurd (omega arith)
   settled-apart (c ∷ cs) (a ∷ acts) e = ap (λ (l : List ℕ). a ∷ l) (follow-apart a cs acts (omega arith))
 
--- ---- one answer: that of `is_selector`, and the actions that `mongolian_variation_selectors` leaves
+-- ---- one answer: that of `is_selector`, that of `base_of`, and the actions that `mongolian_variation_selectors` leaves
 pub selector-once : (c : ℕ) {r s : Bool} → r ≡ selector c → s ≡ selector c → r ≡ s
 selector-once c p q = p ∙ sym q
+
+pub base-once : (cs : List ℕ) (k : ℕ) {j m : ℕ} → j ≡ base cs k → m ≡ base cs k → j ≡ m
+base-once cs k p q = p ∙ sym q
 
 pub settled-once : (cs acts : List ℕ) {l m : List ℕ} → l ≡ settled cs acts → m ≡ settled cs acts → l ≡ m
 settled-once cs acts p q = p ∙ sym q

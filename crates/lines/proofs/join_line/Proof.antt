@@ -1,10 +1,12 @@
 -- `lines::join_line` meets its contract: a refusal leaves the line, and what is not refused is joined.
 -- Assumes nothing.
-use mathlib.Core.Path.{_≡_, sym, _∙_}
+use mathlib.Core.Path.{_≡_, sym, ap, _∙_}
+use mathlib.Core.Bool.{Bool}
 use borrow.Author.Needs.{needs}
+use Rattle.laws.specs.Rows.{first}
 use Rattle.refusals.specs.Numbers.{said}
 use Rattle.lines.specs.Held.{Setting, Line, settingOf, lineOf}
-use Rattle.lines.specs.Joined.{refusal, joinedLine}
+use Rattle.lines.specs.Joined.{refusalRows, refusal, joinedLine}
 use Rattle.lines.proofs.LineLaws.{left-refused, left-done}
 use Rattle.lines.proofs.join_line.Statement.{statement}
 use Rattle.lines.proofs.join_line.Tie as tie
@@ -17,9 +19,14 @@ abbrev line : tie.Start → Line
 line s = let a = s .args in lineOf (a .codes .now) (a .types .now) (a .cats .now) (a .base .now) (a .actions .now) (a .masks .now)
 
 -- the number that is tested
-found : (c : tie.After-number) → let s = c .before .before .before .before .before .before .before .before .before .before .before .before in said (c .before .refused .result) ≡ refusal (setting s) (line s)
+found : (c : tie.After-number) → let s = c .before .before .before .before .before .before .before .before .before .before .before .before .before .before .before in said (c .before .refused .result) ≡ refusal (setting s) (line s)
 unfolding refusal
-found c = c .before .refused .ensures
+found c =
+    let s = c .before .before .before .before .before .before .before .before .before .before .before .before .before .before .before in
+    c .before .refused .ensures ∙ ap (λ (b : Bool). first (refusalRows b (line s .letters) (setting s .pre) (setting s .post))) (c .before .before .even-line .ensures)
+
+even-line-requires : tie.Need-even-line-requires
+even-line-requires c κs = search needs
 
 refused-requires : tie.Need-refused-requires
 refused-requires c κs = search needs
@@ -27,9 +34,15 @@ refused-requires c κs = search needs
 number-requires : tie.Need-number-requires
 number-requires c κs = search needs
 
+same-length : tie.Need-same-length
+same-length c = search needs
+
+same-length-2 : tie.Need-same-length-2
+same-length-2 c = search needs
+
 returns : tie.Need-returns
 returns c =
-    let s = c .before .before .before .before .before .before .before .before .before .before .before .before .before in
+    let s = c .before .before .before .before .before .before .before .before .before .before .before .before .before .before .before .before in
     left-refused _ (line s) (joinedLine (setting s) (line s)) _ (found (c .before)) (λ z. c .if1 .taken (c .before .number .ensures ∙ z))
 
 join-accepted-requires : tie.Need-join-accepted-requires
@@ -37,26 +50,29 @@ join-accepted-requires c κs =
     let e = c .before .before in
     sym (found (e .before)) ∙ sym (e .before .number .ensures) ∙ e .if1 .left
 
-same-length : tie.Need-same-length
-same-length c = search needs
+same-length-3 : tie.Need-same-length-3
+same-length-3 c = search needs
 
-same-length-2 : tie.Need-same-length-2
-same-length-2 c = search needs
+same-length-4 : tie.Need-same-length-4
+same-length-4 c = search needs
 
 returns-2 : tie.Need-returns-2
 returns-2 c =
     let e = c .before .before .before .before .before .before .before in
-    let s = e .before .before .before .before .before .before .before .before .before .before .before .before .before in
+    let s = e .before .before .before .before .before .before .before .before .before .before .before .before .before .before .before .before in
     left-done _ (line s) (joinedLine (setting s) (line s)) _ _ (found (e .before)) (sym (e .before .number .ensures) ∙ e .if1 .left) (c .before .before .before .before .join-accepted .ensures)
 
 pub join-line-spec : {M : Type 1} → statement M
 join-line-spec =
     tie.close
     (tie.spec
+    even-line-requires
     refused-requires
     number-requires
-    returns
-    join-accepted-requires
     same-length
     same-length-2
+    returns
+    join-accepted-requires
+    same-length-3
+    same-length-4
     returns-2)

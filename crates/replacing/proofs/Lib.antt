@@ -1,4 +1,5 @@
 -- The modules that belong to no one function.
 -- Assumes nothing.
+pub mod AllowedLaws
 pub mod LocalLaws
 pub mod RenewLaws

@@ -14,11 +14,13 @@ use borrow.Author.Tests.{ltb-true, ltb-false, leb-true, le-leb}
 use lib.Dec.{leb, ltb}
 use lib.ListN.{length, getD, drop, set, length-set}
 use lib.Seq.{getD-drop, getD-set-other}
+use Rattle.refusals.proofs.ColumnLaws.{atMost-at}
 use Rattle.shapes.specs.Joining.{form, eachBetween}
 use Rattle.shapes.specs.Places.{placeBefore, placeBehind}
-use Rattle.shapes.proofs.JoiningLaws.{form-transparent, length-each, lineTypes-set}
+use Rattle.shapes.proofs.JoiningLaws.{form-transparent, each-most, length-each, lineTypes-set}
 use Rattle.shapes.proofs.PlaceLaws.{Beside, each-set, before-beside, beside-before, behind-beside, beside-behind}
 use Rattle.letters.specs.Types.{resolved}
+use Rattle.letters.specs.Actions.{none}
 use Rattle.selectors.specs.Selectors.{selector, settled, run}
 use Rattle.selectors.proofs.RunLaws.{marked, Reaches, Rests, run-all, run-most, rests, settled-rests}
 use Rattle.masks.specs.Masks.{mask, masks}
@@ -206,6 +208,15 @@ fresh-rests :
 fresh-rests f l k j rest h =
     settled-rests (f .mongolian) (l .codes) (eachBetween form (f .before) (typesOf (l .letters)) (f .behind)) k j rest
     (omega (arith, length-each form (f .before) (typesOf (l .letters)) (f .behind)))
+
+-- and so it is none above the joined ones
+pub fresh-most : (f : Frame) (l : Line) (j : ℕ) → j < length (typesOf (l .letters)) → getD (freshActions f l) j 0 ≤ none
+fresh-most f l j h = at (rests (marks f l) j)
+  where
+    at : ((k : ℕ) × Rests (marks f l) k j) → getD (freshActions f l) j 0 ≤ none
+    at (k, rest) =
+        rw (fresh-rests f l k j rest h)
+        (atMost-at none (eachBetween form (f .before) (typesOf (l .letters)) (f .behind)) (each-most (f .before) (typesOf (l .letters)) (f .behind)) k)
 
 module _ (f : Frame) (r : Request) (l : Line) where
   types-changed : typesOf (changed r l .letters) ≡ set (typesOf (l .letters)) (r .place) (resolved (r .type) (r .category))

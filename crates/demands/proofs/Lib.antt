@@ -3,3 +3,4 @@
 pub mod ExamplesHold
 pub mod JoiningHolds
 pub mod ProgramHolds
+pub mod ReplacingHolds

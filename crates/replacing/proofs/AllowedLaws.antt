@@ -1,13 +1,14 @@
--- What is known of a request that is not refused (`Allowed`, `allowed`); and that, once it is carried out, every other request has the number that it had before
+-- What is known of a request that is not refused (`Allowed`, `allowed`); what the call leaves (`left-replaced`); and that, once it is carried out, every other request has the number that it had before
 -- (`refusal-replaced`).
 -- Assumes nothing.
 use mathlib.Core.Path.{_≡_, refl, sym, ap, _∙_}
 use mathlib.Core.Bool.{Bool, true, false, cond, not, _&&_, _||_, and-eq-true-iff, true≢false}
 use mathlib.Core.List.{List, [], _∷_}
+use mathlib.Core.Logic.{_⊎_, inl, inr}
 use Prim.Native.Nat.{ℕ, _<_, _≤_}
 use native.Mathlib.Omega.{arith}
-use borrow.Author.Tests.{not-false, ltb-true}
-use lib.Dec.{leb, ltb}
+use borrow.Author.Tests.{not-false, ltb-true, eqb-true, eqb-false}
+use lib.Dec.{leb, ltb, eqb}
 use lib.ListN.{length, getD, set, length-set}
 use Rattle.laws.specs.Rows.{Given, first}
 use Rattle.laws.proofs.RowLaws.{first-none}
@@ -17,10 +18,10 @@ use Rattle.letters.specs.Types.{X}
 use Rattle.letters.specs.Categories.{Zs}
 use Rattle.letters.specs.Actions.{none, repeating}
 use Rattle.shapes.proofs.JoiningLaws.{length-lineTypes}
-use Rattle.lines.specs.Held.{Setting, Line}
+use Rattle.lines.specs.Held.{Setting, Line, After}
 use Rattle.lines.specs.Joined.{typesOf, frameOf, freshActions, evenLine, knownLetters, uneven, tooLong, strange}
-use Rattle.lines.proofs.LineLaws.{Accepted, no-row}
-use Rattle.replacing.specs.Replaced.{Request, changed, touched, renewed, replacedLine, strangeRequest, outside, replaceRefusal}
+use Rattle.lines.proofs.LineLaws.{Accepted, no-row, left-number, left-stays, left-accepted}
+use Rattle.replacing.specs.Replaced.{Request, changed, touched, renewed, replacedLine, strangeRequest, outside, replaceRefusal, replaceAfter}
 use Rattle.replacing.proofs.RenewLaws.{length-renewed, renewed-at}
 use Rattle.replacing.proofs.LocalLaws.{length-changed, fresh-most}
 
@@ -62,6 +63,18 @@ allowed s r l h =
       type = new .0;
       category = new .1;
     }
+
+-- what a statement allows: the line as it was, or a request that is not refused and the line with the new letter
+pub left-replaced :
+    (s : Setting) (r : Request) (l : Line) (n : ℕ) (m : Line) → After n m ≡ replaceAfter s r l
+    → ((n ≡ 0 → ⊥) × (m ≡ l)) ⊎ (Allowed s r l × (m ≡ replacedLine (frameOf s) r l))
+left-replaced s r l n m e = go (eqb n 0) refl
+  where
+    go : (b : Bool) → eqb n 0 ≡ b → ((n ≡ 0 → ⊥) × (m ≡ l)) ⊎ (Allowed s r l × (m ≡ replacedLine (frameOf s) r l))
+    go true z =
+        let o = eqb-true n 0 z in
+        inr (allowed s r l (sym (left-number (replaceRefusal s r l) l (replacedLine (frameOf s) r l) n m e) ∙ o), left-accepted (replaceRefusal s r l) l (replacedLine (frameOf s) r l) n m e o)
+    go false z = inl (eqb-false n 0 z, left-stays (replaceRefusal s r l) l (replacedLine (frameOf s) r l) n m e (eqb-false n 0 z))
 
 module _ (s : Setting) (r : Request) (l : Line) (a : Allowed s r l) where
   -- the letters of a line have as many types in the end as they have types

@@ -52,7 +52,7 @@ between a b c = go (ltb a b) refl (ltb b c) refl
     go true e false f = inr (λ _ m. omega (arith, ltb-false b c f))
     go false e y f = inr (λ l _. omega (arith, ltb-false a b e))
 
-lt-or-le : (a b : ℕ) → (a < b) ⊎ (b ≤ a)
+pub lt-or-le : (a b : ℕ) → (a < b) ⊎ (b ≤ a)
 lt-or-le a b = go (ltb a b) refl
   where
     go : (x : Bool) → ltb a b ≡ x → (a < b) ⊎ (b ≤ a)

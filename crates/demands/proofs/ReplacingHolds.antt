@@ -4,18 +4,18 @@ use mathlib.Core.Path.{_≡_, refl, sym, ap, _∙_}
 use mathlib.Core.List.{List, [], _∷_}
 use mathlib.Core.Logic.{⊎-elim}
 use Prim.Native.Nat.{ℕ}
-use lib.ListN.{length-set}
 use Rattle.refusals.specs.Numbers.{said}
 use Rattle.refusals.specs.declared.Verdict.{Verdict}
 use Rattle.refusals.proofs.VerdictLaws.{same-said}
 use Rattle.lines.specs.Held.{Setting, Line}
-use Rattle.lines.specs.Joined.{typesOf, refusal, frameOf, joinedLine}
+use Rattle.lines.specs.Joined.{refusal, frameOf, joinedLine}
 use Rattle.lines.proofs.LineLaws.{same-left, left-number, left-stays, left-smallest, left-accepted}
-use Rattle.replacing.specs.Replaced.{Request, changed, replacedLine, replaceRows, replaceRefusal, replaceAfter}
+use Rattle.replacing.specs.Replaced.{Request, replacedLine, replaceRows, replaceRefusal, replaceAfter}
 use Rattle.replacing.proofs.RenewLaws.{length-renewed}
 use Rattle.replacing.proofs.AllowedLaws.{Allowed, allowed, left-replaced}
 use Rattle.replacing.proofs.CurrentLaws.{replaced-else, replaced-fresh, replaced-current}
-use Rattle.demands.specs.Replacing.{Replacing, OneAnswer, RefusedStays, SmallestNumber, Current, FreshCurrent, StaysCurrent, AfterAll, AlwaysCurrent, AltersNear, GetsFresh, ChangesLetter}
+use Rattle.replacing.proofs.OrderLaws.{refusal-behind, left-order}
+use Rattle.demands.specs.Replacing.{Replacing, OneAnswer, RefusedStays, SmallestNumber, Current, FreshCurrent, StaysCurrent, AfterAll, AlwaysCurrent, AltersNear, GetsFresh, ChangesLetter, EitherOrder}
 use Rattle.demands.proofs.NamedLaws.{named-touches, touches-named}
 
 pub one-answer : OneAnswer
@@ -61,3 +61,10 @@ alters-near s q l r m e z j =
 pub gets-fresh : GetsFresh
 gets-fresh s q l r m e z j h =
     rw (left s q l r m e z) (λ n. replaced-fresh s q l (accepted s q l r m e z) j h (named-touches (s .mongolian) _ _ (q .place) n))
+
+pub either-order : EitherOrder
+either-order s p q l d r u k m e f u′ r′ k′ m′ e′ f′ =
+    let number : (x : Request) (j : Line) (v : Verdict) (n : Line) → Replacing s x j v n → said v ≡ replaceRefusal s x j =
+    λ x j v n. left-number (replaceRefusal s x j) j (replacedLine (frameOf s) x j) (said v) n
+    in
+    (left-order s p q l d (said r) (said u) k m e f (said u′) (said r′) k′ m′ e′ f′, same-said r r′ (number p l r k e ∙ sym (number p k′ r′ m′ f′ ∙ refusal-behind s q p l (said u′) k′ e′)), same-said u u′ (number q k u m f ∙ refusal-behind s p q l (said r) k e ∙ sym (number q l u′ k′ e′)))

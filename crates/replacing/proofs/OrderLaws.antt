@@ -1,20 +1,23 @@
 -- Letters replaced at two places leave the same line in either order (`replaced-order`), current or not: a record that only one of them touches is as if the other
--- were not there, and one that both touch is joined afresh last in either order.
+-- were not there, and one that both touch is joined afresh last in either order. So for two calls, each refused or not: a request has the same number before and
+-- behind any other (`refusal-behind`), and the lines that they leave are equal (`left-order`).
 -- Assumes nothing.
 use mathlib.Core.Path.{_≡_, refl, sym, ap, _∙_}
 use mathlib.Core.Bool.{Bool, true, false, cond}
 use mathlib.Core.List.{List}
 use Prim.Native.Nat.{ℕ, _<_, _≤_}
 use native.Mathlib.Omega.{arith}
+use borrow.Author.Tests.{eqb-true}
+use lib.Dec.{eqb}
 use lib.ListN.{length, getD, set}
 use lib.Seq.{ext-getD, set-comm}
 use Rattle.masks.specs.Masks.{masks}
-use Rattle.lines.specs.Held.{Setting, Frame, Line, lettersOf}
+use Rattle.lines.specs.Held.{Setting, Frame, Line, After}
 use Rattle.lines.specs.Joined.{typesOf, frameOf, freshActions}
-use Rattle.replacing.specs.Replaced.{Request, changed, touched, renewed, replacedLine}
+use Rattle.replacing.specs.Replaced.{Request, changed, touched, renewed, replacedLine, replaceRefusal, replaceAfter}
 use Rattle.replacing.proofs.RenewLaws.{length-renewed, renewed-at}
 use Rattle.replacing.proofs.LocalLaws.{length-changed, untouched-action, untouched-mask, untouched-touched}
-use Rattle.replacing.proofs.AllowedLaws.{Allowed, length-letters}
+use Rattle.replacing.proofs.AllowedLaws.{Allowed, allowed, length-letters, refusal-replaced}
 
 -- records renewed twice: first where `one` holds, then where `other′` does; or first where `other` holds, then where `one′` does
 module _ (one one′ other other′ : ℕ → Bool) (x y both : ℕ → ℕ) (column : List ℕ) where
@@ -106,3 +109,45 @@ replaced-order s p q l a b d =
     ap (λ (v : List ℕ). record { codes = both .codes; letters = both .letters; base = l .base; actions = v; masks = renewedTwice f both (q .place) (changed p l) (p .place) l .masks }) actions
     ∙ ap (λ (v : List ℕ). record { codes = both .codes; letters = both .letters; base = l .base; actions = renewedTwice f both (p .place) (changed q l) (q .place) l .actions; masks = v }) masked
     ∙ ap (λ (m : Line). renewedTwice f m (p .place) (changed q l) (q .place) l) (sym c)
+
+-- ---- two calls
+-- the line that a call leaves
+abbrev lineLeft : Setting → Request → Line → Line
+lineLeft s r l = cond (eqb (replaceRefusal s r l) 0) (replacedLine (frameOf s) r l) l
+
+left-line : (s : Setting) (r : Request) (l : Line) (n : ℕ) (m : Line) → After n m ≡ replaceAfter s r l → m ≡ lineLeft s r l
+left-line s r l n m = go (eqb (replaceRefusal s r l) 0)
+  where
+    go : (b : Bool) → After n m ≡ cond b (After 0 (replacedLine (frameOf s) r l)) (After (replaceRefusal s r l) l) → m ≡ cond b (replacedLine (frameOf s) r l) l
+    go true e = cc
+    go false e = cc
+
+refusal-left : (s : Setting) (p q : Request) (l : Line) → replaceRefusal s q (lineLeft s p l) ≡ replaceRefusal s q l
+refusal-left s p q l = go (eqb (replaceRefusal s p l) 0) refl
+  where
+    go : (b : Bool) → eqb (replaceRefusal s p l) 0 ≡ b → replaceRefusal s q (cond b (replacedLine (frameOf s) p l) l) ≡ replaceRefusal s q l
+    go true e = refusal-replaced s p l (allowed s p l (eqb-true (replaceRefusal s p l) 0 e)) q
+    go false e = refl
+
+pub refusal-behind : (s : Setting) (p q : Request) (l : Line) (n : ℕ) (k : Line) → After n k ≡ replaceAfter s p l → replaceRefusal s q k ≡ replaceRefusal s q l
+refusal-behind s p q l n k e = rw (left-line s p l n k e) (refusal-left s p q l)
+
+lineLeft-order : (s : Setting) (p q : Request) (l : Line) → (p .place ≡ q .place → ⊥) → lineLeft s q (lineLeft s p l) ≡ lineLeft s p (lineLeft s q l)
+lineLeft-order s p q l d =
+    rw (refusal-left s p q l, refusal-left s q p l) (go (eqb (replaceRefusal s p l) 0) refl (eqb (replaceRefusal s q l) 0) refl)
+  where
+    go :
+        (a : Bool) → eqb (replaceRefusal s p l) 0 ≡ a → (b : Bool) → eqb (replaceRefusal s q l) 0 ≡ b
+        → cond b (replacedLine (frameOf s) q (cond a (replacedLine (frameOf s) p l) l)) (cond a (replacedLine (frameOf s) p l) l)
+        ≡ cond a (replacedLine (frameOf s) p (cond b (replacedLine (frameOf s) q l) l)) (cond b (replacedLine (frameOf s) q l) l)
+    go true e true f =
+        replaced-order s p q l (allowed s p l (eqb-true (replaceRefusal s p l) 0 e)) (allowed s q l (eqb-true (replaceRefusal s q l) 0 f)) d
+    go true e false f = refl
+    go false e true f = refl
+    go false e false f = refl
+
+pub left-order :
+    (s : Setting) (p q : Request) (l : Line) → (p .place ≡ q .place → ⊥) → (n i : ℕ) (k m : Line) → After n k ≡ replaceAfter s p l → After i m ≡ replaceAfter s q k
+    → (n′ i′ : ℕ) (k′ m′ : Line) → After n′ k′ ≡ replaceAfter s q l → After i′ m′ ≡ replaceAfter s p k′ → m ≡ m′
+left-order s p q l d n i k m e f n′ i′ k′ m′ e′ f′ =
+    left-line s q k i m f ∙ ap (lineLeft s q) (left-line s p l n k e) ∙ lineLeft-order s p q l d ∙ sym (left-line s p k′ i′ m′ f′ ∙ ap (lineLeft s p) (left-line s q l n′ k′ e′))

@@ -5,3 +5,4 @@ pub mod CurrentLaws
 pub mod LocalLaws
 pub mod OrderLaws
 pub mod RenewLaws
+pub mod ReplaceExamples

@@ -142,21 +142,7 @@ fn renew_before(
 {
     if k < types.len() {
         let q = neighbours::letter_before(types, cats, k, before);
-        renew(
-            codes,
-            types,
-            cats,
-            before,
-            behind,
-            base,
-            features,
-            mongolian,
-            k,
-            q.letter,
-            n,
-            actions,
-            masks,
-        );
+        renew(codes, types, cats, before, behind, base, features, mongolian, k, q.letter, n, actions, masks);
     }
 }
 
@@ -181,21 +167,7 @@ fn renew_behind(
 {
     if k < types.len() {
         let m = neighbours::letter_from(types, cats, k + 1, behind);
-        renew(
-            codes,
-            types,
-            cats,
-            before,
-            behind,
-            base,
-            features,
-            mongolian,
-            k,
-            p,
-            m.letter,
-            actions,
-            masks,
-        );
+        renew(codes, types, cats, before, behind, base, features, mongolian, k, p, m.letter, actions, masks);
     }
 }
 
@@ -232,47 +204,8 @@ fn refresh(
     let n = neighbours::letter_from(types, cats, k + 1, behind);
     let ahead = past(n.letter, t);
     let back = past(q.letter, t);
-    renew_behind(
-        codes,
-        types,
-        cats,
-        before,
-        behind,
-        base,
-        features,
-        mongolian,
-        n.place,
-        back,
-        actions,
-        masks,
-    );
-    renew_before(
-        codes,
-        types,
-        cats,
-        before,
-        behind,
-        base,
-        features,
-        mongolian,
-        q.place,
-        ahead,
-        actions,
-        masks,
-    );
-    renew(
-        codes,
-        types,
-        cats,
-        before,
-        behind,
-        base,
-        features,
-        mongolian,
-        k,
-        q.letter,
-        n.letter,
-        actions,
-        masks,
-    );
+    renew_behind(codes, types, cats, before, behind, base, features, mongolian, n.place, back, actions, masks);
+    renew_before(codes, types, cats, before, behind, base, features, mongolian, q.place, ahead, actions, masks);
+    renew(codes, types, cats, before, behind, base, features, mongolian, k, q.letter, n.letter, actions, masks);
 }
+

@@ -2,4 +2,6 @@
 -- Assumes nothing.
 pub mod ExamplesHold
 pub mod JoiningHolds
+pub mod NamedLaws
 pub mod ProgramHolds
+pub mod ReplacingHolds

@@ -3,3 +3,4 @@
 pub mod Examples
 pub mod Joining
 pub mod Program
+pub mod Replacing

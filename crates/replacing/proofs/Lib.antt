@@ -1,6 +1,7 @@
 -- The modules that belong to no one function.
 -- Assumes nothing.
-pub mod FreshLaws
-pub mod HeldLaws
-pub mod RenewLaws
-pub mod SeenLaws
+pub mod AllowedLaws
+pub mod CurrentLaws
+pub mod LocalLaws
+pub mod OrderLaws
+pub mod ReplaceExamples

@@ -1,0 +1,70 @@
+-- The promises of replacing a letter hold.
+-- Assumes nothing.
+use mathlib.Core.Path.{_≡_, refl, sym, ap, _∙_}
+use mathlib.Core.List.{List, [], _∷_}
+use mathlib.Core.Logic.{⊎-elim}
+use Prim.Native.Nat.{ℕ}
+use Rattle.refusals.specs.Numbers.{said}
+use Rattle.refusals.specs.declared.Verdict.{Verdict}
+use Rattle.refusals.proofs.VerdictLaws.{same-said}
+use Rattle.lines.specs.Held.{Setting, Line}
+use Rattle.lines.specs.Joined.{refusal, frameOf, joinedLine}
+use Rattle.lines.proofs.LineLaws.{same-left, left-number, left-stays, left-smallest, left-accepted}
+use Rattle.replacing.specs.Replaced.{Request, replacedLine, replaceRows, replaceRefusal, replaceAfter}
+use Rattle.replacing.proofs.RenewLaws.{length-renewed}
+use Rattle.replacing.proofs.AllowedLaws.{Allowed, allowed, left-replaced}
+use Rattle.replacing.proofs.CurrentLaws.{replaced-else, replaced-fresh, replaced-current}
+use Rattle.replacing.proofs.OrderLaws.{refusal-behind, left-order}
+use Rattle.demands.specs.Replacing.{Replacing, OneAnswer, RefusedStays, SmallestNumber, Current, FreshCurrent, StaysCurrent, AfterAll, AlwaysCurrent, AltersNear, GetsFresh, ChangesLetter, EitherOrder}
+use Rattle.demands.proofs.NamedLaws.{named-touches, touches-named}
+
+pub one-answer : OneAnswer
+one-answer s q l r u m n = same-left r u m n (replaceAfter s q l)
+
+pub refused-stays : RefusedStays
+refused-stays s q l r m = left-stays (replaceRefusal s q l) l (replacedLine (frameOf s) q l) (said r) m
+
+pub smallest-number : SmallestNumber
+unfolding replaceRefusal
+smallest-number s q l r m = left-smallest (replaceRows s q l) refl l (replacedLine (frameOf s) q l) (said r) m
+
+pub fresh-current : FreshCurrent
+fresh-current s l r m e z = let j = left-accepted (refusal s l) l (joinedLine s l) (said r) m e z in rw j refl
+
+pub stays-current : StaysCurrent
+stays-current s q l r m c e = ⊎-elim (λ (d, same). rw same c) (λ (a, new). rw new (replaced-current s q l a c)) (left-replaced s q l (said r) m e)
+
+all-current : (s : Setting) (qs : List Request) (l m : Line) → Current s l → AfterAll s qs l m → Current s m
+all-current s [] l m c e = rw (← e) c
+all-current s (q ∷ qs) l m c (r, k, e, on) = all-current s qs k m (stays-current s q l r k c e) on
+
+pub always-current : AlwaysCurrent
+always-current s l r k qs m e z on = all-current s qs k m (fresh-current s l r k e z) on
+
+-- an accepted request, and the line that it leaves
+module _ (s : Setting) (q : Request) (l : Line) (r : Verdict) (m : Line) (e : Replacing s q l r m) (z : said r ≡ 0) where
+  accepted : Allowed s q l
+  accepted = allowed s q l (sym (left-number (replaceRefusal s q l) l (replacedLine (frameOf s) q l) (said r) m e) ∙ z)
+
+  left : m ≡ replacedLine (frameOf s) q l
+  left = left-accepted (replaceRefusal s q l) l (replacedLine (frameOf s) q l) (said r) m e z
+
+pub changes-letter : ChangesLetter
+changes-letter s q l r m e z =
+    rw (left s q l r m e z)
+    (record { codes = refl; types = refl; categories = refl; base = refl; actions = length-renewed _ _ (l .actions); masks = length-renewed _ _ (l .masks) })
+
+pub alters-near : AltersNear
+alters-near s q l r m e z j =
+    rw (left s q l r m e z) (λ other. replaced-else s q l (accepted s q l r m e z) j (λ t. other (touches-named (s .mongolian) _ _ (q .place) j t)))
+
+pub gets-fresh : GetsFresh
+gets-fresh s q l r m e z j h =
+    rw (left s q l r m e z) (λ n. replaced-fresh s q l (accepted s q l r m e z) j h (named-touches (s .mongolian) _ _ (q .place) n))
+
+pub either-order : EitherOrder
+either-order s p q l d r u k m e f u′ r′ k′ m′ e′ f′ =
+    let number : (x : Request) (j : Line) (v : Verdict) (n : Line) → Replacing s x j v n → said v ≡ replaceRefusal s x j =
+    λ x j v n. left-number (replaceRefusal s x j) j (replacedLine (frameOf s) x j) (said v) n
+    in
+    (left-order s p q l d (said r) (said u) k m e f (said u′) (said r′) k′ m′ e′ f′, same-said r r′ (number p l r k e ∙ sym (number p k′ r′ m′ f′ ∙ refusal-behind s q p l (said u′) k′ e′)), same-said u u′ (number q k u m f ∙ refusal-behind s p q l (said r) k e ∙ sym (number q l u′ k′ e′)))

@@ -1,0 +1,98 @@
+-- What a replacement leaves at a record: what joining afresh gives where the new letter touches it (`replaced-fresh`), else what it had (`replaced-else`). So a line whose
+-- every record is as joining afresh gives stays so (`replaced-current`): the records that are touched are joined afresh, and the others need not be.
+-- Assumes nothing.
+use mathlib.Core.Path.{_≡_, refl, sym, ap, _∙_}
+use mathlib.Core.Bool.{Bool, true, false, cond}
+use mathlib.Core.List.{List}
+use mathlib.Core.Logic.{⊎-elim}
+use Prim.Native.Nat.{ℕ, _<_, _≤_}
+use native.Mathlib.Omega.{arith}
+use lib.ListN.{length, getD, List·getD-eq-default}
+use lib.Seq.{ext-getD}
+use Rattle.masks.specs.Masks.{masks}
+use Rattle.masks.proofs.MaskLaws.{length-masks}
+use Rattle.lines.specs.Held.{Setting, Line}
+use Rattle.lines.specs.Joined.{typesOf, frameOf, freshActions, freshLine}
+use Rattle.replacing.specs.Replaced.{Request, changed, touched, renewed, replacedLine}
+use Rattle.replacing.proofs.RenewLaws.{length-renewed, renewed-at}
+use Rattle.replacing.proofs.LocalLaws.{TouchesIn, lt-or-le, touched-touches, touches-touched, length-fresh, length-changed, untouched-action, untouched-mask}
+use Rattle.replacing.proofs.AllowedLaws.{Allowed, length-letters}
+
+-- a column that is right wherever it is not renewed is right then
+pub renewed-right :
+    (at : ℕ → Bool) (xs ys : List ℕ) → length xs ≡ length ys → ((j : ℕ) → j < length xs → at j ≡ false → getD xs j 0 ≡ getD ys j 0)
+    → renewed at (λ j. getD ys j 0) xs ≡ ys
+renewed-right at xs ys e right =
+    let fresh : ℕ → ℕ = λ j. getD ys j 0 in
+    let n = length-renewed at fresh xs in
+    ext-getD 0 (renewed at fresh xs) ys (n ∙ e) (λ j h. let on : j < length xs = omega arith in renewed-at at fresh xs j on ∙ go j (at j) (right j on))
+  where
+    go : (j : ℕ) (b : Bool) → (b ≡ false → getD xs j 0 ≡ getD ys j 0) → cond b (getD ys j 0) (getD xs j 0) ≡ getD ys j 0
+    go j true r = refl
+    go j false r = r refl
+
+-- a record that is not renewed, and past the end
+renewed-else : (at : ℕ → Bool) (fresh : ℕ → ℕ) (xs : List ℕ) (j : ℕ) → (j < length xs → at j ≡ false) → getD (renewed at fresh xs) j 0 ≡ getD xs j 0
+renewed-else at fresh xs j off = ⊎-elim on past (lt-or-le j (length xs))
+  where
+    on : j < length xs → getD (renewed at fresh xs) j 0 ≡ getD xs j 0
+    on h = renewed-at at fresh xs j h ∙ simp (off h)
+
+    past : length xs ≤ j → getD (renewed at fresh xs) j 0 ≡ getD xs j 0
+    past h = List·getD-eq-default (renewed at fresh xs) 0 (omega (arith, length-renewed at fresh xs)) ∙ sym (List·getD-eq-default xs 0 h)
+
+-- a request that is carried out, at a record
+module _ (s : Setting) (r : Request) (l : Line) (a : Allowed s r l) (j : ℕ) where
+  -- the new letter is in the line, and so is a record of the old one
+  within : r .place ≤ length (typesOf (changed r l .letters))
+  within = omega (arith, a .inside, length-letters s r l a, length-changed (frameOf s) r l)
+
+  same-place : j < length (l .letters .types) → j < length (typesOf (changed r l .letters))
+  same-place h = omega (arith, length-letters s r l a, length-changed (frameOf s) r l)
+
+  pub replaced-else :
+      (TouchesIn (frameOf s) (changed r l) (r .place) j → ⊥)
+      → (getD (replacedLine (frameOf s) r l .actions) j 0 ≡ getD (l .actions) j 0) × (getD (replacedLine (frameOf s) r l .masks) j 0 ≡ getD (l .masks) j 0)
+  replaced-else never =
+      let f = frameOf s in
+      let new = changed r l in
+      let at = touched f new (r .place) in
+      let no : j < length (l .letters .types) → at j ≡ false = λ h. failed (at j) (λ e. never (touched-touches f new (r .place) j within (same-place h) e)) in
+      (renewed-else at (λ j. getD (freshActions f new) j 0) (l .actions) j (λ h. no (omega (arith, a .line .actions))), renewed-else at (λ j. getD (masks (f .features) (l .base) (freshActions f new)) j 0) (l .masks) j (λ h. no (omega (arith, a .line .masks))))
+    where
+      failed : (b : Bool) → (b ≡ true → ⊥) → b ≡ false
+      failed true d = absurd (d refl)
+      failed false d = refl
+
+  pub replaced-fresh :
+      j < length (l .letters .types) → TouchesIn (frameOf s) (changed r l) (r .place) j
+      → (getD (replacedLine (frameOf s) r l .actions) j 0 ≡ getD (freshLine (frameOf s) (changed r l) .actions) j 0)
+      × (getD (replacedLine (frameOf s) r l .masks) j 0 ≡ getD (freshLine (frameOf s) (changed r l) .masks) j 0)
+  replaced-fresh h t =
+      let f = frameOf s in
+      let new = changed r l in
+      let at = touched f new (r .place) in
+      let yes : at j ≡ true = touches-touched f new (r .place) j within (same-place h) t in
+      (renewed-at at (λ j. getD (freshActions f new) j 0) (l .actions) j (omega (arith, a .line .actions)) ∙ rw yes refl, renewed-at at (λ j. getD (masks (f .features) (l .base) (freshActions f new)) j 0) (l .masks) j (omega (arith, a .line .masks)) ∙ rw yes refl)
+
+pub replaced-current :
+    (s : Setting) (r : Request) (l : Line) → Allowed s r l → l ≡ freshLine (frameOf s) l
+    → replacedLine (frameOf s) r l ≡ freshLine (frameOf s) (replacedLine (frameOf s) r l)
+replaced-current s r l a now =
+    let f = frameOf s in
+    let new = changed r l in
+    let at = touched f new (r .place) in
+    let n = length-letters s r l a in
+    let c = length-changed f r l in
+    let within : r .place ≤ length (typesOf (l .letters)) = omega (arith, a .inside) in
+    let actions : renewed at (λ j. getD (freshActions f new) j 0) (l .actions) ≡ freshActions f new =
+    renewed-right at (l .actions) (freshActions f new) (omega (arith, a .line .actions, length-fresh f new))
+    (λ j h no. ap (λ (m : Line). getD (m .actions) j 0) now ∙ sym (untouched-action f r l j (omega (arith, a .line .actions)) within no))
+    in
+    let fresh = masks (f .features) (l .base) (freshActions f new) in
+    let masked : renewed at (λ j. getD fresh j 0) (l .masks) ≡ fresh =
+    renewed-right at (l .masks) fresh (omega (arith, a .line .masks, a .line .base, length-fresh f new, length-masks (f .features) (l .base) (freshActions f new) (omega (arith, a .line .base, length-fresh f new))))
+    (λ j h no. ap (λ (m : Line). getD (m .masks) j 0) now ∙ sym (untouched-mask f r l j (omega (arith, a .line .masks)) within no (f .features) (l .base) (omega (arith, a .line .masks, a .line .base))))
+    in
+    ap (λ (x : List ℕ). record { codes = new .codes; letters = new .letters; base = l .base; actions = x; masks = renewed at (λ j. getD fresh j 0) (l .masks) }) actions
+    ∙ ap (λ (x : List ℕ). record { codes = new .codes; letters = new .letters; base = l .base; actions = freshActions f new; masks = x }) masked

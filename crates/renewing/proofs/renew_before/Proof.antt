@@ -1,9 +1,9 @@
--- `replacing::renew_before` meets its contract: where there is no such letter, the line stays.
+-- `renewing::renew_before` meets its contract: where there is no such letter, the line stays.
 -- Assumes nothing.
 use borrow.Author.Needs.{needs}
-use Rattle.replacing.proofs.HeldLaws.{line-stays}
-use Rattle.replacing.proofs.renew_before.Statement.{statement}
-use Rattle.replacing.proofs.renew_before.Tie as tie
+use Rattle.renewing.proofs.HeldLaws.{line-stays}
+use Rattle.renewing.proofs.renew_before.Statement.{statement}
+use Rattle.renewing.proofs.renew_before.Tie as tie
 
 letter-before-requires : tie.Need-letter-before-requires
 letter-before-requires c κs = search needs

@@ -1,13 +1,13 @@
--- `replacing::fresh_action` meets its contract: the rule at the record's home, between the letters that stand there.
+-- `renewing::fresh_action` meets its contract: the rule at the record's home, between the letters that stand there.
 -- Assumes nothing.
 use mathlib.Core.Path.{_≡_}
 use Prim.Native.Nat.{_<_}
 use native.Mathlib.Omega.{arith}
 use borrow.Author.Needs.{needs}
 use lib.ListN.{length}
-use Rattle.replacing.proofs.FreshLaws.{home-below, fresh-form}
-use Rattle.replacing.proofs.fresh_action.Statement.{statement}
-use Rattle.replacing.proofs.fresh_action.Tie as tie
+use Rattle.renewing.proofs.FreshLaws.{home-below, fresh-form}
+use Rattle.renewing.proofs.fresh_action.Statement.{statement}
+use Rattle.renewing.proofs.fresh_action.Tie as tie
 
 -- the home stands in the line
 within : (c : tie.After-home) → c .home .result < length (c .before .before .before .before .args .types .now)

@@ -22,7 +22,7 @@ use Rattle.selectors.proofs.RunLaws.{run-all}
 use Rattle.selectors.proofs.WalkLaws.{run-within}
 use Rattle.joining.specs.Joinable.{Joinable}
 use Rattle.lines.specs.Joined.{actionsBetween}
-use Rattle.replacing.specs.Replaced.{reached}
+use Rattle.renewing.specs.Renewed.{reached}
 
 -- a record's home is not behind it
 pub home-below : (m : Bool) (cs : List ℕ) (k h : ℕ) → h ≡ cond m (base cs k) k → h ≤ k

@@ -1,4 +1,4 @@
--- `replacing::refresh` meets its contract: the letter behind the place, the one before it, the place; each sees the others as they stand in the line.
+-- `renewing::refresh` meets its contract: the letter behind the place, the one before it, the place; each sees the others as they stand in the line.
 -- Assumes nothing.
 use mathlib.Core.Path.{_≡_}
 use Prim.Native.Nat.{_+_, _<_}
@@ -6,10 +6,10 @@ use borrow.Author.Needs.{needs}
 use lib.ListN.{length, take, drop}
 use Rattle.shapes.specs.Joining.{latest, nearest, lineTypes}
 use Rattle.lines.specs.Held.{Frame, Line, frameBy, lineOf}
-use Rattle.replacing.proofs.HeldLaws.{renewed-held, line-touched}
-use Rattle.replacing.proofs.SeenLaws.{seen-ahead, seen-back}
-use Rattle.replacing.proofs.refresh.Statement.{statement}
-use Rattle.replacing.proofs.refresh.Tie as tie
+use Rattle.renewing.proofs.HeldLaws.{renewed-held, line-touched}
+use Rattle.renewing.proofs.SeenLaws.{seen-ahead, seen-back}
+use Rattle.renewing.proofs.refresh.Statement.{statement}
+use Rattle.renewing.proofs.refresh.Tie as tie
 
 -- what the call was given
 abbrev frame : tie.Start → Frame

@@ -1,8 +1,8 @@
--- `replacing::home` meets its contract.
+-- `renewing::home` meets its contract.
 -- Assumes nothing.
 use borrow.Author.Needs.{needs}
-use Rattle.replacing.proofs.home.Statement.{statement}
-use Rattle.replacing.proofs.home.Tie as tie
+use Rattle.renewing.proofs.home.Statement.{statement}
+use Rattle.renewing.proofs.home.Tie as tie
 
 base-of-requires : tie.Need-base-of-requires
 base-of-requires c κs = search needs

@@ -1,9 +1,9 @@
--- `replacing::renew_behind` meets its contract: where there is no such letter, the line stays.
+-- `renewing::renew_behind` meets its contract: where there is no such letter, the line stays.
 -- Assumes nothing.
 use borrow.Author.Needs.{needs}
-use Rattle.replacing.proofs.HeldLaws.{line-stays}
-use Rattle.replacing.proofs.renew_behind.Statement.{statement}
-use Rattle.replacing.proofs.renew_behind.Tie as tie
+use Rattle.renewing.proofs.HeldLaws.{line-stays}
+use Rattle.renewing.proofs.renew_behind.Statement.{statement}
+use Rattle.renewing.proofs.renew_behind.Tie as tie
 
 add-letter-from : tie.Need-add-letter-from
 add-letter-from c = search needs

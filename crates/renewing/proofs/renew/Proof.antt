@@ -1,12 +1,12 @@
--- `replacing::renew` meets its contract: one action for all that the record reaches.
+-- `renewing::renew` meets its contract: one action for all that the record reaches.
 -- Assumes nothing.
 use mathlib.Core.Path.{sym, _∙_}
 use native.Mathlib.Omega.{arith}
 use borrow.Author.Needs.{needs}
-use Rattle.replacing.proofs.FreshLaws.{reach-within}
-use Rattle.replacing.proofs.HeldLaws.{line-renewed}
-use Rattle.replacing.proofs.renew.Statement.{statement}
-use Rattle.replacing.proofs.renew.Tie as tie
+use Rattle.renewing.proofs.FreshLaws.{reach-within}
+use Rattle.renewing.proofs.HeldLaws.{line-renewed}
+use Rattle.renewing.proofs.renew.Statement.{statement}
+use Rattle.renewing.proofs.renew.Tie as tie
 
 fresh-action-requires : tie.Need-fresh-action-requires
 fresh-action-requires c κs = search needs

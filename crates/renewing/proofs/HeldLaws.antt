@@ -19,10 +19,10 @@ use Rattle.masks.specs.Masks.{mask, masks}
 use Rattle.masks.proofs.MaskLaws.{masks-at}
 use Rattle.lines.specs.Held.{Frame, Line}
 use Rattle.lines.specs.Joined.{typesOf, freshActions, freshLine, actionsBetween}
-use Rattle.replacing.specs.Renewing.{Renewable}
-use Rattle.replacing.specs.Replaced.{reached, touched, renewed, renewedLine}
-use Rattle.replacing.proofs.RenewLaws.{span, length-renewed, renewed-alike, renewed-none, renewed-twice}
-use Rattle.replacing.proofs.FreshLaws.{fresh-run}
+use Rattle.renewing.specs.Renewing.{Renewable}
+use Rattle.renewing.specs.Renewed.{reached, touched, renewed, renewedLine}
+use Rattle.renewing.proofs.RenewLaws.{span, length-renewed, renewed-alike, renewed-none, renewed-twice}
+use Rattle.renewing.proofs.FreshLaws.{fresh-run}
 
 -- the records that k reaches are those from k to before an end
 span-reached : (m : Bool) (cs : List ℕ) (k end j : ℕ) → end ≡ k + 1 + cond m (run (drop (k + 1) cs)) 0 → span k end j ≡ reached m cs k j

@@ -1,9 +1,8 @@
 -- The promises of replacing a letter hold.
 -- Assumes nothing.
-use mathlib.Core.Path.{_≡_, refl, sym, ap, _∙_}
+use mathlib.Core.Path.{_≡_, refl, sym, _∙_}
 use mathlib.Core.List.{List, [], _∷_}
 use mathlib.Core.Logic.{⊎-elim}
-use Prim.Native.Nat.{ℕ}
 use Rattle.refusals.specs.Numbers.{said}
 use Rattle.refusals.specs.declared.Verdict.{Verdict}
 use Rattle.refusals.proofs.VerdictLaws.{same-said}
@@ -56,11 +55,11 @@ changes-letter s q l r m e z =
 
 pub alters-near : AltersNear
 alters-near s q l r m e z j =
-    rw (left s q l r m e z) (λ other. replaced-else s q l (accepted s q l r m e z) j (λ t. other (touches-named (s .mongolian) _ _ (q .place) j t)))
+    rw (left s q l r m e z) (λ other. replaced-else s q l (accepted s q l r m e z) j (λ h t. other (touches-named (s .mongolian) _ _ (q .place) j h t)))
 
 pub gets-fresh : GetsFresh
-gets-fresh s q l r m e z j h =
-    rw (left s q l r m e z) (λ n. replaced-fresh s q l (accepted s q l r m e z) j h (named-touches (s .mongolian) _ _ (q .place) n))
+gets-fresh s q l r m e z j =
+    rw (left s q l r m e z) (λ n. replaced-fresh s q l (accepted s q l r m e z) j (named-touches (s .mongolian) _ _ (q .place) n))
 
 pub either-order : EitherOrder
 either-order s p q l d r u k m e f u′ r′ k′ m′ e′ f′ =

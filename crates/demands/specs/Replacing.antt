@@ -70,6 +70,7 @@ pub record NearestBefore (ts : List ℕ) (p k : ℕ) : Type 0 where
 -- k is the nearest one behind it
 pub record NearestBehind (ts : List ℕ) (p k : ℕ) : Type 0 where
   pub later : p < k
+  pub inside : k < length ts
   pub letter : getD ts k 0 ≡ T → ⊥
   pub between : (i : ℕ) → p < i → i < k → getD ts i 0 ≡ T
 
@@ -104,7 +105,7 @@ AltersNear =
 abbrev pub GetsFresh : Type 0
 GetsFresh =
     (s : Setting) (q : Request) (l : Line) (r : Verdict) (m : Line) → Replacing s q l r m → said r ≡ 0
-    → (j : ℕ) → j < length (l .letters .types) → NamedIn s m (q .place) j
+    → (j : ℕ) → NamedIn s m (q .place) j
     → (getD (m .actions) j 0 ≡ getD (joinedLine s m .actions) j 0) × (getD (m .masks) j 0 ≡ getD (joinedLine s m .masks) j 0)
 
 -- what a replacement does to the other columns

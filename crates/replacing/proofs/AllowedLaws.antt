@@ -1,22 +1,22 @@
 -- What is known of a request that is not refused (`Allowed`, `allowed`); what the call leaves (`left-replaced`); and that, once it is carried out, every other request has the number that it had before
 -- (`refusal-replaced`).
 -- Assumes nothing.
-use mathlib.Core.Path.{_≡_, refl, sym, ap, _∙_}
-use mathlib.Core.Bool.{Bool, true, false, cond, not, _&&_, _||_, and-eq-true-iff, true≢false}
-use mathlib.Core.List.{List, [], _∷_}
+use mathlib.Core.Path.{_≡_, refl, sym, _∙_}
+use mathlib.Core.Bool.{Bool, true, false, cond, _&&_, _||_, and-eq-true-iff, true≢false}
+use mathlib.Core.List.{[], _∷_}
 use mathlib.Core.Logic.{_⊎_, inl, inr}
 use Prim.Native.Nat.{ℕ, _<_, _≤_}
 use native.Mathlib.Omega.{arith}
 use borrow.Author.Tests.{not-false, ltb-true, eqb-true, eqb-false}
-use lib.Dec.{leb, ltb, eqb}
-use lib.ListN.{length, getD, set, length-set}
-use Rattle.laws.specs.Rows.{Given, first}
+use lib.Dec.{leb, eqb}
+use lib.ListN.{length, getD, length-set}
+use Rattle.laws.specs.Rows.{Given}
 use Rattle.laws.proofs.RowLaws.{first-none}
 use Rattle.refusals.specs.Columns.{atMost}
 use Rattle.refusals.proofs.ColumnLaws.{atMost-at, atMost-all, atMost-set}
 use Rattle.letters.specs.Types.{X}
 use Rattle.letters.specs.Categories.{Zs}
-use Rattle.letters.specs.Actions.{none, repeating}
+use Rattle.letters.specs.Actions.{repeating}
 use Rattle.shapes.proofs.JoiningLaws.{length-lineTypes}
 use Rattle.lines.specs.Held.{Setting, Line, After}
 use Rattle.lines.specs.Joined.{typesOf, frameOf, freshActions, evenLine, knownLetters, uneven, tooLong, strange}

@@ -4,8 +4,9 @@
 use mathlib.Core.Path.{_≡_, refl, sym, ap, _∙_}
 use mathlib.Core.Bool.{Bool, true, false, cond}
 use mathlib.Core.List.{List}
-use mathlib.Core.Logic.{⊎-elim}
+use mathlib.Core.Logic.{by-cases}
 use Prim.Native.Nat.{ℕ, _<_, _≤_}
+use native.Mathlib.Decide.{decLt}
 use native.Mathlib.Omega.{arith}
 use lib.ListN.{length, getD, List·getD-eq-default}
 use lib.Seq.{ext-getD}
@@ -16,7 +17,7 @@ use Rattle.lines.specs.Joined.{typesOf, frameOf, freshActions, freshLine}
 use Rattle.renewing.specs.Renewed.{touched, renewed}
 use Rattle.replacing.specs.Replaced.{Request, changed, replacedLine}
 use Rattle.renewing.proofs.RenewLaws.{length-renewed, renewed-at}
-use Rattle.replacing.proofs.LocalLaws.{TouchesIn, lt-or-le, touched-touches, touches-touched, length-fresh, length-changed, untouched-action, untouched-mask}
+use Rattle.replacing.proofs.LocalLaws.{TouchesIn, touched-touches, touches-touched, length-fresh, length-changed, untouched-action, untouched-mask}
 use Rattle.replacing.proofs.AllowedLaws.{Allowed, length-letters}
 
 -- a column that is right wherever it is not renewed is right then
@@ -32,9 +33,9 @@ renewed-right at xs ys e right =
     go j true r = refl
     go j false r = r refl
 
--- a record that is not renewed, and past the end
+-- a record that is not renewed, and one that is; past the end is neither
 renewed-else : (at : ℕ → Bool) (fresh : ℕ → ℕ) (xs : List ℕ) (j : ℕ) → (j < length xs → at j ≡ false) → getD (renewed at fresh xs) j 0 ≡ getD xs j 0
-renewed-else at fresh xs j off = ⊎-elim on past (lt-or-le j (length xs))
+renewed-else at fresh xs j off = by-cases (decLt j (length xs)) on (λ n. past (omega (arith, n)))
   where
     on : j < length xs → getD (renewed at fresh xs) j 0 ≡ getD xs j 0
     on h = renewed-at at fresh xs j h ∙ simp (off h)
@@ -42,58 +43,76 @@ renewed-else at fresh xs j off = ⊎-elim on past (lt-or-le j (length xs))
     past : length xs ≤ j → getD (renewed at fresh xs) j 0 ≡ getD xs j 0
     past h = List·getD-eq-default (renewed at fresh xs) 0 (omega (arith, length-renewed at fresh xs)) ∙ sym (List·getD-eq-default xs 0 h)
 
--- a request that is carried out, at a record
-module _ (s : Setting) (r : Request) (l : Line) (a : Allowed s r l) (j : ℕ) where
-  -- the new letter is in the line, and so is a record of the old one
-  within : r .place ≤ length (typesOf (changed r l .letters))
-  within = omega (arith, a .inside, length-letters s r l a, length-changed (frameOf s) r l)
+renewed-there :
+    (at : ℕ → Bool) (xs ys : List ℕ) (j : ℕ) → length xs ≡ length ys → (j < length xs → at j ≡ true) → getD (renewed at (λ i. getD ys i 0) xs) j 0 ≡ getD ys j 0
+renewed-there at xs ys j e holds = by-cases (decLt j (length xs)) on (λ n. past (omega (arith, n)))
+  where
+    on : j < length xs → getD (renewed at (λ i. getD ys i 0) xs) j 0 ≡ getD ys j 0
+    on h = renewed-at at (λ i. getD ys i 0) xs j h ∙ simp (holds h)
 
-  same-place : j < length (l .letters .types) → j < length (typesOf (changed r l .letters))
-  same-place h = omega (arith, length-letters s r l a, length-changed (frameOf s) r l)
+    past : length xs ≤ j → getD (renewed at (λ i. getD ys i 0) xs) j 0 ≡ getD ys j 0
+    past h =
+        List·getD-eq-default (renewed at (λ i. getD ys i 0) xs) 0 (omega (arith, length-renewed at (λ i. getD ys i 0) xs)) ∙ sym (List·getD-eq-default ys 0 (omega arith))
 
-  pub replaced-else :
-      (TouchesIn (frameOf s) (changed r l) (r .place) j → ⊥)
-      → (getD (replacedLine (frameOf s) r l .actions) j 0 ≡ getD (l .actions) j 0) × (getD (replacedLine (frameOf s) r l .masks) j 0 ≡ getD (l .masks) j 0)
-  replaced-else never =
+-- a request that is carried out
+module _ (s : Setting) (r : Request) (l : Line) (a : Allowed s r l) where
+  -- the line with the new letter has as many letters, and as many fresh actions and masks as the line has old ones
+  long : length (typesOf (changed r l .letters)) ≡ length (l .letters .types)
+  long = length-changed (frameOf s) r l ∙ length-letters s r l a
+
+  actions-long : length (l .actions) ≡ length (freshActions (frameOf s) (changed r l))
+  actions-long = a .line .actions ∙ sym (length-fresh (frameOf s) (changed r l) ∙ long)
+
+  masks-long : length (l .masks) ≡ length (masks (s .features) (l .base) (freshActions (frameOf s) (changed r l)))
+  masks-long =
+      let e : length (l .base) ≡ length (freshActions (frameOf s) (changed r l)) = omega (arith, a .line .base, a .line .actions, actions-long) in
+      omega (arith, a .line .masks, a .line .actions, actions-long, length-masks (s .features) (l .base) (freshActions (frameOf s) (changed r l)) e)
+
+  -- at a record
+  module _ (j : ℕ) where
+    pub replaced-else :
+        (j < length (typesOf (changed r l .letters)) → TouchesIn (frameOf s) (changed r l) (r .place) j → ⊥)
+        → (getD (replacedLine (frameOf s) r l .actions) j 0 ≡ getD (l .actions) j 0) × (getD (replacedLine (frameOf s) r l .masks) j 0 ≡ getD (l .masks) j 0)
+    replaced-else never =
+        let f = frameOf s in
+        let new = changed r l in
+        let at = touched f new (r .place) in
+        let off : j < length (typesOf (new .letters)) → at j ≡ false =
+        λ h. failed (at j) (λ e. never h (touched-touches f new (r .place) j (omega (arith, long, a .inside)) h e))
+        in
+        (renewed-else at (λ i. getD (freshActions f new) i 0) (l .actions) j (λ h. off (omega (arith, long, a .line .actions))), renewed-else at (λ i. getD (masks (s .features) (l .base) (freshActions f new)) i 0) (l .masks) j (λ h. off (omega (arith, long, a .line .masks))))
+      where
+        failed : (b : Bool) → (b ≡ true → ⊥) → b ≡ false
+        failed true d = absurd (d refl)
+        failed false d = refl
+
+    pub replaced-fresh :
+        TouchesIn (frameOf s) (changed r l) (r .place) j
+        → (getD (replacedLine (frameOf s) r l .actions) j 0 ≡ getD (freshLine (frameOf s) (changed r l) .actions) j 0)
+        × (getD (replacedLine (frameOf s) r l .masks) j 0 ≡ getD (freshLine (frameOf s) (changed r l) .masks) j 0)
+    replaced-fresh t =
+        let f = frameOf s in
+        let new = changed r l in
+        let at = touched f new (r .place) in
+        let yes : j < length (typesOf (new .letters)) → at j ≡ true = λ h. touches-touched f new (r .place) j (omega (arith, long, a .inside)) h t in
+        (renewed-there at (l .actions) (freshActions f new) j actions-long (λ h. yes (omega (arith, long, a .line .actions))), renewed-there at (l .masks) (masks (s .features) (l .base) (freshActions f new)) j masks-long (λ h. yes (omega (arith, long, a .line .masks))))
+
+  -- at every record of a line that is current
+  pub replaced-current : l ≡ freshLine (frameOf s) l → replacedLine (frameOf s) r l ≡ freshLine (frameOf s) (replacedLine (frameOf s) r l)
+  replaced-current now =
       let f = frameOf s in
       let new = changed r l in
       let at = touched f new (r .place) in
-      let no : j < length (l .letters .types) → at j ≡ false = λ h. failed (at j) (λ e. never (touched-touches f new (r .place) j within (same-place h) e)) in
-      (renewed-else at (λ j. getD (freshActions f new) j 0) (l .actions) j (λ h. no (omega (arith, a .line .actions))), renewed-else at (λ j. getD (masks (f .features) (l .base) (freshActions f new)) j 0) (l .masks) j (λ h. no (omega (arith, a .line .masks))))
-    where
-      failed : (b : Bool) → (b ≡ true → ⊥) → b ≡ false
-      failed true d = absurd (d refl)
-      failed false d = refl
-
-  pub replaced-fresh :
-      j < length (l .letters .types) → TouchesIn (frameOf s) (changed r l) (r .place) j
-      → (getD (replacedLine (frameOf s) r l .actions) j 0 ≡ getD (freshLine (frameOf s) (changed r l) .actions) j 0)
-      × (getD (replacedLine (frameOf s) r l .masks) j 0 ≡ getD (freshLine (frameOf s) (changed r l) .masks) j 0)
-  replaced-fresh h t =
-      let f = frameOf s in
-      let new = changed r l in
-      let at = touched f new (r .place) in
-      let yes : at j ≡ true = touches-touched f new (r .place) j within (same-place h) t in
-      (renewed-at at (λ j. getD (freshActions f new) j 0) (l .actions) j (omega (arith, a .line .actions)) ∙ rw yes refl, renewed-at at (λ j. getD (masks (f .features) (l .base) (freshActions f new)) j 0) (l .masks) j (omega (arith, a .line .masks)) ∙ rw yes refl)
-
-pub replaced-current :
-    (s : Setting) (r : Request) (l : Line) → Allowed s r l → l ≡ freshLine (frameOf s) l
-    → replacedLine (frameOf s) r l ≡ freshLine (frameOf s) (replacedLine (frameOf s) r l)
-replaced-current s r l a now =
-    let f = frameOf s in
-    let new = changed r l in
-    let at = touched f new (r .place) in
-    let n = length-letters s r l a in
-    let c = length-changed f r l in
-    let within : r .place ≤ length (typesOf (l .letters)) = omega (arith, a .inside) in
-    let actions : renewed at (λ j. getD (freshActions f new) j 0) (l .actions) ≡ freshActions f new =
-    renewed-right at (l .actions) (freshActions f new) (omega (arith, a .line .actions, length-fresh f new))
-    (λ j h no. ap (λ (m : Line). getD (m .actions) j 0) now ∙ sym (untouched-action f r l j (omega (arith, a .line .actions)) within no))
-    in
-    let fresh = masks (f .features) (l .base) (freshActions f new) in
-    let masked : renewed at (λ j. getD fresh j 0) (l .masks) ≡ fresh =
-    renewed-right at (l .masks) fresh (omega (arith, a .line .masks, a .line .base, length-fresh f new, length-masks (f .features) (l .base) (freshActions f new) (omega (arith, a .line .base, length-fresh f new))))
-    (λ j h no. ap (λ (m : Line). getD (m .masks) j 0) now ∙ sym (untouched-mask f r l j (omega (arith, a .line .masks)) within no (f .features) (l .base) (omega (arith, a .line .masks, a .line .base))))
-    in
-    ap (λ (x : List ℕ). record { codes = new .codes; letters = new .letters; base = l .base; actions = x; masks = renewed at (λ j. getD fresh j 0) (l .masks) }) actions
-    ∙ ap (λ (x : List ℕ). record { codes = new .codes; letters = new .letters; base = l .base; actions = freshActions f new; masks = x }) masked
+      let n = length-letters s r l a in
+      let within : r .place ≤ length (typesOf (l .letters)) = omega (arith, a .inside) in
+      let fresh = masks (s .features) (l .base) (freshActions f new) in
+      let actions : renewed at (λ j. getD (freshActions f new) j 0) (l .actions) ≡ freshActions f new =
+      renewed-right at (l .actions) (freshActions f new) actions-long
+      (λ j h off. ap (λ (m : Line). getD (m .actions) j 0) now ∙ sym (untouched-action f r l j (omega (arith, a .line .actions)) within off))
+      in
+      let masked : renewed at (λ j. getD fresh j 0) (l .masks) ≡ fresh =
+      renewed-right at (l .masks) fresh masks-long
+      (λ j h off. ap (λ (m : Line). getD (m .masks) j 0) now ∙ sym (untouched-mask f r l j (omega (arith, a .line .masks)) within off (s .features) (l .base) (omega (arith, a .line .masks, a .line .base))))
+      in
+      ap (λ (x : List ℕ). record { codes = new .codes; letters = new .letters; base = l .base; actions = x; masks = renewed at (λ j. getD fresh j 0) (l .masks) }) actions
+      ∙ ap (λ (x : List ℕ). record { codes = new .codes; letters = new .letters; base = l .base; actions = freshActions f new; masks = x }) masked

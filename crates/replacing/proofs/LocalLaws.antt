@@ -6,12 +6,13 @@
 use mathlib.Core.Path.{_≡_, refl, sym, ap, _∙_}
 use mathlib.Core.Bool.{Bool, true, false, cond, _&&_, _||_, and-eq-true-iff, false≢true}
 use mathlib.Core.List.{List}
-use mathlib.Core.Logic.{_⊎_, inl, inr, ⊎-elim}
+use mathlib.Core.Logic.{_⊎_, inl, inr, ⊎-elim, by-cases}
 use Prim.Native.Nat.{ℕ, suc, _+_, _-_, _<_, _≤_}
 use native.Mathlib.Nat.{eq-or-lt-of-le}
+use native.Mathlib.Decide.{decLe, decLt}
 use native.Mathlib.Omega.{arith}
-use borrow.Author.Tests.{ltb-true, ltb-false, leb-true, le-leb}
-use lib.Dec.{leb, ltb}
+use borrow.Author.Tests.{leb-true, le-leb}
+use lib.Dec.{leb}
 use lib.ListN.{length, getD, drop, set, length-set}
 use lib.Seq.{getD-drop, getD-set-other}
 use Rattle.refusals.proofs.ColumnLaws.{atMost-at}
@@ -44,21 +45,9 @@ marks f l = marked (f .mongolian) (l .codes)
 abbrev pub TouchesIn : Frame → Line → ℕ → ℕ → Type 0
 TouchesIn f l p j = Touches (marks f l) (typesOf (l .letters)) p j
 
--- b lies between a and c, or not
-between : (a b c : ℕ) → ((a < b) × (b < c)) ⊎ (a < b → b < c → ⊥)
-between a b c = go (ltb a b) refl (ltb b c) refl
-  where
-    go : (x : Bool) → ltb a b ≡ x → (y : Bool) → ltb b c ≡ y → ((a < b) × (b < c)) ⊎ (a < b → b < c → ⊥)
-    go true e true f = inl (ltb-true a b e, ltb-true b c f)
-    go true e false f = inr (λ _ m. omega (arith, ltb-false b c f))
-    go false e y f = inr (λ l _. omega (arith, ltb-false a b e))
-
-pub lt-or-le : (a b : ℕ) → (a < b) ⊎ (b ≤ a)
-lt-or-le a b = go (ltb a b) refl
-  where
-    go : (x : Bool) → ltb a b ≡ x → (a < b) ⊎ (b ≤ a)
-    go true e = inl (ltb-true a b e)
-    go false e = inr (ltb-false a b e)
+-- two bounds are both met, or not
+both-or-not : (a b c d : ℕ) → ((a ≤ b) × (c ≤ d)) ⊎ (a ≤ b → c ≤ d → ⊥)
+both-or-not a b c d = by-cases (decLe a b) (λ l. by-cases (decLe c d) (λ h. inl (l, h)) (λ n. inr (λ _ h. n h))) (λ n. inr (λ l _. n l))
 
 -- where a record reaches past p, the rest of its run is p's own
 reaches-past : {s : ℕ → Bool} {k j : ℕ} (p : ℕ) → Reaches s k j → k ≤ p → p ≤ j → Reaches s p j
@@ -67,13 +56,13 @@ reaches-past p r l h = record { forward = h; all = λ i m n. r .all i (omega ari
 -- ---- two lines that differ at p alone
 module _ (ts us : List ℕ) (s u : ℕ → Bool) (p : ℕ) (same : (i : ℕ) → (i ≡ p → ⊥) → getD us i 0 ≡ getD ts i 0) (alike : (i : ℕ) → (i ≡ p → ⊥) → u i ≡ s i) where
   pub touches-own : (j : ℕ) → Touches s ts p j → Touches u us p j
-  touches-own j t = ⊎-elim own other (between (t .root) (suc p) (suc (suc j)))
+  touches-own j t = ⊎-elim own other (both-or-not (t .root) p p j)
     where
-      own : (t .root < suc p) × (suc p < suc (suc j)) → Touches u us p j
+      own : (t .root ≤ p) × (p ≤ j) → Touches u us p j
       own (l, h) =
           record { root = p; near = inl refl; reaches = record { forward = omega arith; all = λ i m n. alike i (λ e. omega arith) ∙ t .reaches .all i (omega arith) n } }
 
-      other : (t .root < suc p → suc p < suc (suc j) → ⊥) → Touches u us p j
+      other : (t .root ≤ p → p ≤ j → ⊥) → Touches u us p j
       other off =
           let on = t .reaches .forward in
           let apart : t .root ≡ p → ⊥ = λ e. off (omega arith) (omega arith) in
@@ -89,12 +78,12 @@ module _ (ts us : List ℕ) (s u : ℕ → Bool) (p : ℕ) (same : (i : ℕ) →
   pub touches-other : (q j : ℕ) → Touches u us q j → Touches u us p j ⊎ Touches s ts q j
   touches-other q j t =
       let k = t .root in
-      ⊎-elim (own k (t .reaches)) (other k (t .near) (t .reaches)) (between k (suc p) (suc (suc j)))
+      ⊎-elim (own k (t .reaches)) (other k (t .near) (t .reaches)) (both-or-not k p p j)
     where
-      own : (k : ℕ) → Reaches u k j → (k < suc p) × (suc p < suc (suc j)) → Touches u us p j ⊎ Touches s ts q j
+      own : (k : ℕ) → Reaches u k j → (k ≤ p) × (p ≤ j) → Touches u us p j ⊎ Touches s ts q j
       own k t (l, h) = inl (record { root = p; near = inl refl; reaches = reaches-past p t (omega arith) (omega arith) })
 
-      other : (k : ℕ) → (k ≡ q) ⊎ Beside us q k → Reaches u k j → (k < suc p → suc p < suc (suc j) → ⊥) → Touches u us p j ⊎ Touches s ts q j
+      other : (k : ℕ) → (k ≡ q) ⊎ Beside us q k → Reaches u k j → (k ≤ p → p ≤ j → ⊥) → Touches u us p j ⊎ Touches s ts q j
       other k n₀ t off =
           let on = t .forward in
           let apart : k ≡ p → ⊥ = λ e. off (omega arith) (omega arith) in
@@ -110,7 +99,7 @@ module _ (ts us : List ℕ) (s u : ℕ → Bool) (p : ℕ) (same : (i : ℕ) →
           in
           ⊎-elim
           (λ e. inr (record { root = k; near = inl e; reaches = r }))
-          (λ w. ⊎-elim (λ b. inl (behind w b)) (λ x. ⊎-elim (λ b. inl (before w b)) (λ y. inr (record { root = k; near = inr (beside w x y); reaches = r })) (between q p k)) (between k p q))
+          (λ w. ⊎-elim (λ b. inl (behind w b)) (λ x. ⊎-elim (λ b. inl (before w b)) (λ y. inr (record { root = k; near = inr (beside w x y); reaches = r })) (both-or-not (suc q) p (suc p) k)) (both-or-not (suc k) p (suc p) q))
           n₀
 
 -- ---- the tests of the definition
@@ -185,10 +174,9 @@ module _ (f : Frame) (l : Line) (p j : ℕ) (within : p ≤ length (typesOf (l .
       (⊎-elim
       (λ e. inl (at p (sym e)))
       (λ w.
-      ⊎-elim
-      (λ b. inr (inl (at (placeBefore ts p) (beside-before ts p k (omega arith) w))))
-      (λ b. ⊎-elim (λ e. inl (at p (omega arith))) (λ g. inr (inr (at (placeBehind ts p) (beside-behind ts p k (omega arith) (omega arith) w)))) (eq-or-lt-of-le b))
-      (lt-or-le k p))
+      by-cases (decLt k p)
+      (λ b. inr (inl (at (placeBefore ts p) (beside-before ts p k b w))))
+      (λ b. by-cases (decLt p k) (λ g. inr (inr (at (placeBehind ts p) (beside-behind ts p k g (omega arith) w)))) (λ g. inl (at p (omega (arith, b, g))))))
       (t .near))
 
 -- ---- a line, and the same line with a new letter
@@ -240,15 +228,15 @@ module _ (f : Frame) (r : Request) (l : Line) where
     where
       from :
           ((k : ℕ) × Rests (marks f l) k j) → (getD (freshActions f (changed r l)) j 0 ≡ getD (freshActions f l) j 0) ⊎ TouchesIn f l (r .place) j
-      from (k, rest) = ⊎-elim own other (between k (suc (r .place)) (suc (suc j)))
+      from (k, rest) = ⊎-elim own other (both-or-not k (r .place) (r .place) j)
         where
           own :
-              (k < suc (r .place)) × (suc (r .place) < suc (suc j))
+              (k ≤ r .place) × (r .place ≤ j)
               → (getD (freshActions f (changed r l)) j 0 ≡ getD (freshActions f l) j 0) ⊎ TouchesIn f l (r .place) j
           own (a, b) = inr (record { root = r .place; near = inl refl; reaches = reaches-past (r .place) (rest .reaches) (omega arith) (omega arith) })
 
           other :
-              (k < suc (r .place) → suc (r .place) < suc (suc j) → ⊥)
+              (k ≤ r .place → r .place ≤ j → ⊥)
               → (getD (freshActions f (changed r l)) j 0 ≡ getD (freshActions f l) j 0) ⊎ TouchesIn f l (r .place) j
           other off =
               let on = rest .reaches .forward in

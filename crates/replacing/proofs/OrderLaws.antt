@@ -9,7 +9,7 @@ use Prim.Native.Nat.{ℕ, _<_, _≤_}
 use native.Mathlib.Omega.{arith}
 use borrow.Author.Tests.{eqb-true}
 use lib.Dec.{eqb}
-use lib.ListN.{length, getD, set}
+use lib.ListN.{length, getD}
 use lib.Seq.{ext-getD, set-comm}
 use Rattle.masks.specs.Masks.{masks}
 use Rattle.lines.specs.Held.{Setting, Frame, Line, After}

@@ -10,7 +10,7 @@ use Rattle.lines.specs.Held.{Setting, Line}
 use Rattle.lines.specs.Joined.{refusal, frameOf, joinedLine}
 use Rattle.lines.proofs.LineLaws.{same-left, left-number, left-stays, left-smallest, left-accepted}
 use Rattle.replacing.specs.Replaced.{Request, replacedLine, replaceRows, replaceRefusal, replaceAfter}
-use Rattle.replacing.proofs.RenewLaws.{length-renewed}
+use Rattle.renewing.proofs.RenewLaws.{length-renewed}
 use Rattle.replacing.proofs.AllowedLaws.{Allowed, allowed, left-replaced}
 use Rattle.replacing.proofs.CurrentLaws.{replaced-else, replaced-fresh, replaced-current}
 use Rattle.replacing.proofs.OrderLaws.{refusal-behind, left-order}

@@ -16,7 +16,7 @@ use lib.Seq.{take-suc}
 use Rattle.laws.proofs.LoopLaws.{drop-next}
 use Rattle.letters.specs.Types.{T}
 use Rattle.shapes.specs.Joining.{passed, latest, nearest}
-use Rattle.shapes.specs.Places.{placeBefore, placeOf}
+use Rattle.shapes.specs.Places.{placeBefore, placeOf, placeBehind}
 use Rattle.shapes.proofs.LocalityLaws.{latest-append}
 use Rattle.neighbours.specs.declared.Neighbour.{Neighbour}
 use Rattle.neighbours.specs.Beside.{StandsBefore, StandsFrom}
@@ -70,6 +70,10 @@ placeOf-most (t ∷ ts) = go (eqb t T) (placeOf-most ts)
 -- the letter from a place on stands in the line, or at its length
 pub placeFrom-most : (ts : List ℕ) (p : ℕ) → p ≤ length ts → p + placeOf (drop p ts) ≤ length ts
 placeFrom-most ts p h = omega (arith, placeOf-most (drop p ts), length-drop p ts)
+
+-- the place that `letter_from` gives from p + 1 on, and the definition's
+pub placeBehind-from : (ts : List ℕ) (p : ℕ) → p + 1 + placeOf (drop (p + 1) ts) ≡ placeBehind ts p
+placeBehind-from ts p = rw (add-one p)
 
 -- ---- what stands between
 nearest-skips : (ts : List ℕ) (k a : ℕ) → eqb (getD ts k 0) T ≡ true → nearest (drop k ts) a ≡ nearest (drop (suc k) ts) a

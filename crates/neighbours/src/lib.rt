@@ -20,11 +20,11 @@ pub fn letter_before(types: &[u8], cats: &[u8], k: usize, before: u8) -> Neighbo
 {
     let mut i = k;
     while 0 < i {
-        let this_type = joining::type_at(types, cats, i - 1);
-        if this_type != JoiningType::T.0 {
+        let prev_type = joining::type_at(types, cats, i - 1);
+        if prev_type != JoiningType::T.0 {
             return Neighbour {
                 place: i - 1,
-                letter: this_type,
+                letter: prev_type,
             };
         }
         i -= 1;
@@ -43,11 +43,11 @@ pub fn letter_from(types: &[u8], cats: &[u8], k: usize, behind: u8) -> Neighbour
 {
     let mut i = k;
     while i < types.len() {
-        let this_type = joining::type_at(types, cats, i);
-        if this_type != JoiningType::T.0 {
+        let next_type = joining::type_at(types, cats, i);
+        if next_type != JoiningType::T.0 {
             return Neighbour {
                 place: i,
-                letter: this_type,
+                letter: next_type,
             };
         }
         i += 1;

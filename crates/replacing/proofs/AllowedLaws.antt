@@ -21,8 +21,10 @@ use Rattle.shapes.proofs.JoiningLaws.{length-lineTypes}
 use Rattle.lines.specs.Held.{Setting, Line, After}
 use Rattle.lines.specs.Joined.{typesOf, frameOf, freshActions, evenLine, knownLetters, uneven, tooLong, strange}
 use Rattle.lines.proofs.LineLaws.{Accepted, no-row, left-number, left-stays, left-accepted}
-use Rattle.replacing.specs.Replaced.{Request, changed, touched, renewed, replacedLine, strangeRequest, outside, replaceRefusal, replaceAfter}
-use Rattle.replacing.proofs.RenewLaws.{length-renewed, renewed-at}
+use Rattle.renewing.specs.Renewed.{touched, renewed}
+use Rattle.renewing.specs.Renewing.{Renewable}
+use Rattle.replacing.specs.Replaced.{Request, changed, replacedLine, strangeRequest, outside, replaceRefusal, replaceAfter}
+use Rattle.renewing.proofs.RenewLaws.{length-renewed, renewed-at}
 use Rattle.replacing.proofs.LocalLaws.{length-changed, fresh-most}
 
 -- of the rows that replacing uses, none applies
@@ -62,6 +64,23 @@ allowed s r l h =
       actions = asked .0;
       type = new .0;
       category = new .1;
+    }
+
+-- so the line with the new letter can be renewed
+pub changed-held : {s : Setting} {r : Request} {l : Line} → Allowed s r l → length (s .features) ≡ 7 → Renewable (frameOf s) (changed r l)
+changed-held {s} {r} {l} a seven =
+    let at = r .place in
+    record {
+      letters =
+          record {
+            even = simp length-set (a .line .line .even);
+            small = atMost-set X (l .letters .types) at (r .type) (a .line .line .small) (a .type);
+          };
+      codes = simp length-set (a .line .codes);
+      base = simp length-set (a .line .base);
+      actions = simp length-set (a .line .actions);
+      masks = simp length-set (a .line .masks);
+      features = seven;
     }
 
 -- what a statement allows: the line as it was, or a request that is not refused and the line with the new letter

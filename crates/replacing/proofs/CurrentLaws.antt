@@ -14,8 +14,9 @@ use Rattle.masks.specs.Masks.{masks}
 use Rattle.masks.proofs.MaskLaws.{length-masks}
 use Rattle.lines.specs.Held.{Setting, Line}
 use Rattle.lines.specs.Joined.{typesOf, frameOf, freshActions, freshLine}
-use Rattle.replacing.specs.Replaced.{Request, changed, touched, renewed, replacedLine}
-use Rattle.replacing.proofs.RenewLaws.{length-renewed, renewed-at}
+use Rattle.renewing.specs.Renewed.{touched, renewed}
+use Rattle.replacing.specs.Replaced.{Request, changed, replacedLine}
+use Rattle.renewing.proofs.RenewLaws.{length-renewed, renewed-at}
 use Rattle.replacing.proofs.LocalLaws.{TouchesIn, touched-touches, touches-touched, length-fresh, length-changed, untouched-action, untouched-mask}
 use Rattle.replacing.proofs.AllowedLaws.{Allowed, length-letters}
 

@@ -4,5 +4,4 @@ pub mod AllowedLaws
 pub mod CurrentLaws
 pub mod LocalLaws
 pub mod OrderLaws
-pub mod RenewLaws
 pub mod ReplaceExamples

@@ -29,7 +29,8 @@ use Rattle.masks.proofs.MaskLaws.{masks-at}
 use Rattle.selectors.proofs.SelectorLaws.{length-settled}
 use Rattle.lines.specs.Held.{Frame, Line}
 use Rattle.lines.specs.Joined.{typesOf, freshActions}
-use Rattle.replacing.specs.Replaced.{Request, changed, reached, touched}
+use Rattle.renewing.specs.Renewed.{reached, touched}
+use Rattle.replacing.specs.Replaced.{Request, changed}
 
 -- record j is reached from the letter at p, or from one beside it
 pub record Touches (s : ℕ → Bool) (ts : List ℕ) (p j : ℕ) : Type 0 where

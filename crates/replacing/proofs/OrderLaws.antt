@@ -14,8 +14,9 @@ use lib.Seq.{ext-getD, set-comm}
 use Rattle.masks.specs.Masks.{masks}
 use Rattle.lines.specs.Held.{Setting, Frame, Line, After}
 use Rattle.lines.specs.Joined.{typesOf, frameOf, freshActions}
-use Rattle.replacing.specs.Replaced.{Request, changed, touched, renewed, replacedLine, replaceRefusal, replaceAfter}
-use Rattle.replacing.proofs.RenewLaws.{length-renewed, renewed-at}
+use Rattle.renewing.specs.Renewed.{touched, renewed}
+use Rattle.replacing.specs.Replaced.{Request, changed, replacedLine, replaceRefusal, replaceAfter}
+use Rattle.renewing.proofs.RenewLaws.{length-renewed, renewed-at}
 use Rattle.replacing.proofs.LocalLaws.{length-changed, untouched-action, untouched-mask, untouched-touched}
 use Rattle.replacing.proofs.AllowedLaws.{Allowed, allowed, length-letters, refusal-replaced}
 

@@ -1,21 +1,12 @@
-// Replacing: the public call that replaces a letter of a held line. Beyond its tests it walks outward from the place, to the second letter on each side.
+// Replacing: the public call that replaces a letter of a held line. Beyond its tests it costs its neighbourhood.
 ghost use mathlib.Core.Path.{_≡_};
-ghost use mathlib.Core.Bool.{false, cond, _&&_};
+ghost use mathlib.Core.Bool.{false};
 ghost use mathlib.Core.List.{[]};
-ghost use Prim.Native.Nat.{_+_, _<_, _≤_};
-ghost use lib.Dec.{leb, ltb};
-ghost use lib.ListN.{length, getD, take, drop};
 ghost use Rattle.laws.specs.Rows.{first};
 ghost use Rattle.refusals.specs.Numbers.{said};
-ghost use Rattle.shapes.specs.Joining.{passed, latest, nearest, lineTypes};
-ghost use Rattle.shapes.specs.Places.{placeBefore, placeOf};
-ghost use Rattle.selectors.specs.Selectors.{run, base as baseOf};
-ghost use Rattle.masks.specs.Masks.{mask};
-ghost use Rattle.joining.specs.Joinable.{Joinable};
-ghost use Rattle.lines.specs.Held.{After, settingOf, frameBy, lineOf};
-ghost use Rattle.lines.specs.Joined.{frameOf, actionsBetween};
-ghost use Rattle.replacing.specs.Renewing.{Renewable};
-ghost use Rattle.replacing.specs.Replaced.{requestOf, reached, touched, renewed, renewedLine, replacedLine, replaceRows, replaceRefusal, replaceAfter};
+ghost use Rattle.lines.specs.Held.{After, settingOf, lineOf};
+ghost use Rattle.lines.specs.Joined.{frameOf};
+ghost use Rattle.replacing.specs.Replaced.{requestOf, replacedLine, replaceRows, replaceRefusal, replaceAfter};
 use letters::Action;
 use letters::Category;
 use letters::Code;
@@ -23,46 +14,140 @@ use letters::JoiningType;
 use refusals::Refusal;
 use refusals::Verdict;
 
-// Where the run of selectors directly behind the record at `k` ends, which only a Mongolian line has.
-fn reach_end(mongolian: bool, codes: &[u32], k: usize) -> usize
-    requires { ⌜ k < length (now codes) ⌝ }
-    ensures { λ r. ⌜ r ≡ k + 1 + cond mongolian (run (drop (k + 1) (now (codes .entry)))) 0 ⌝ }
-{
-    if mongolian {
-        return selectors::run_end(codes, k + 1);
-    }
-    k + 1
-}
-
-// The records from `k` to before `end` get an action, and their masks by it.
-fn put(
+// Replaces a letter where it is not refused.
+fn replace_accepted(
+    codes: &mut [u32],
+    types: &mut [u8],
+    cats: &mut [u8],
+    pre_types: &[u8],
+    pre_cats: &[u8],
+    post_types: &[u8],
+    post_cats: &[u8],
     base: &[u32],
-    features: &[u32; 7],
-    k: usize,
-    end: usize,
-    action: Action,
+    features: [u32; 7],
+    mongolian: bool,
     actions: &mut [u8],
     masks: &mut [u32],
+    place: usize,
+    code: Code,
+    joining_type: JoiningType,
+    category: Category,
 )
-    requires { ⌜ (length (now features) ≡ 7) × (k ≤ end) × (end ≤ length (now base)) ⌝ }
-    requires { ⌜ (length (now actions) ≡ length (now base)) × (length (now masks) ≡ length (now base)) ⌝ }
-    ensures actions { λ _. ⌜ now (actions .exit) ≡ renewed (λ j. leb k j && ltb j end) (λ j. action .0) (now (actions .entry)) ⌝ }
-    ensures masks { λ _. ⌜ now (masks .exit) ≡ renewed (λ j. leb k j && ltb j end) (λ j. mask (now (features .entry)) (getD (now (base .entry)) j 0) (action .0)) (now (masks .entry)) ⌝ }
+    requires { ⌜ replaceRefusal (settingOf (now «pre_types») (now «pre_cats») (now «post_types») (now «post_cats») features mongolian) (requestOf place (code .0) («joining_type» .0) (category .0)) (lineOf (now codes) (now types) (now cats) (now base) (now actions) (now masks)) ≡ 0 ⌝ }
+    ensures { λ _. ⌜ lineOf (now (codes .exit)) (now (types .exit)) (now (cats .exit)) (now (base .entry)) (now (actions .exit)) (now (masks .exit)) ≡ replacedLine (frameOf (settingOf (now («pre_types» .entry)) (now («pre_cats» .entry)) (now («post_types» .entry)) (now («post_cats» .entry)) features mongolian)) (requestOf place (code .0) («joining_type» .0) (category .0)) (lineOf (now (codes .entry)) (now (types .entry)) (now (cats .entry)) (now (base .entry)) (now (actions .entry)) (now (masks .entry))) ⌝ }
 {
-    let mut i = k;
-    while i < end {
-        actions[i] = action.0;
-        masks[i] = masks::mask_of(features, base[i], action);
-        i += 1;
-    }
+    codes[place] = code.0;
+    types[place] = joining_type.0;
+    cats[place] = category.0;
+    let before = joining::first_letter(pre_types, pre_cats);
+    let behind = joining::first_letter(post_types, post_cats);
+    renewing::refresh(
+        codes,
+        types,
+        cats,
+        before,
+        behind,
+        base,
+        &features,
+        mongolian,
+        place,
+        actions,
+        masks,
+    );
 }
 
-// The letter that is seen past a letter `t`: `far` if it is transparent.
-fn past(far: u8, t: u8) -> u8
-    ensures { λ r. ⌜ r ≡ passed far t ⌝ }
+// The refusal of a request: old actions and the new letter are tested here, the line and its contexts as for joining. Feature masks, script
+// and code are not asked for, so the contract may name any.
+fn refused(
+    codes: &[u32],
+    types: &[u8],
+    cats: &[u8],
+    pre_types: &[u8],
+    pre_cats: &[u8],
+    post_types: &[u8],
+    post_cats: &[u8],
+    base: &[u32],
+    actions: &[u8],
+    masks: &[u32],
+    place: usize,
+    joining_type: JoiningType,
+    category: Category,
+) -> Verdict
+    ensures { λ r. ⌜ said r ≡ first (replaceRows (settingOf (now («pre_types» .entry)) (now («pre_cats» .entry)) (now («post_types» .entry)) (now («post_cats» .entry)) [] false) (requestOf place 0 («joining_type» .0) (category .0)) (lineOf (now (codes .entry)) (now (types .entry)) (now (cats .entry)) (now (base .entry)) (now (actions .entry)) (now (masks .entry)))) ⌝ }
 {
-    if t == JoiningType::T.0 {
-        return far;
+    let line_even = lines::even_line(codes, types, cats, base, actions, masks);
+    let line = lines::refused(
+        line_even,
+        types,
+        cats,
+        pre_types,
+        pre_cats,
+        post_types,
+        post_cats,
+    );
+    let known = refusals::within(actions, Action::REPEATING.0)
+        & ((joining_type.0 <= JoiningType::X.0) & (category.0 <= Category::ZS.0));
+    let strange = refusals::unless(known, Refusal::OutOfRange);
+    let outside = refusals::unless(place < types.len(), Refusal::Place);
+    line.sooner(strange.sooner(outside))
+}
+
+// Replaces the letter at a place of a held line: writes its code, type and category, and the actions and masks that go by it. The contexts have their nearest letters first.
+pub fn replace_letter(
+    codes: &mut [u32],
+    types: &mut [u8],
+    cats: &mut [u8],
+    pre_types: &[u8],
+    pre_cats: &[u8],
+    post_types: &[u8],
+    post_cats: &[u8],
+    base: &[u32],
+    features: [u32; 7],
+    mongolian: bool,
+    actions: &mut [u8],
+    masks: &mut [u32],
+    place: usize,
+    code: Code,
+    joining_type: JoiningType,
+    category: Category,
+) -> Verdict
+    ensures { λ r. ⌜ After (said r) (lineOf (now (codes .exit)) (now (types .exit)) (now (cats .exit)) (now (base .entry)) (now (actions .exit)) (now (masks .exit))) ≡ replaceAfter (settingOf (now («pre_types» .entry)) (now («pre_cats» .entry)) (now («post_types» .entry)) (now («post_cats» .entry)) features mongolian) (requestOf place (code .0) («joining_type» .0) (category .0)) (lineOf (now (codes .entry)) (now (types .entry)) (now (cats .entry)) (now (base .entry)) (now (actions .entry)) (now (masks .entry))) ⌝ }
+{
+    let verdict = refused(
+        codes,
+        types,
+        cats,
+        pre_types,
+        pre_cats,
+        post_types,
+        post_cats,
+        base,
+        actions,
+        masks,
+        place,
+        joining_type,
+        category,
+    );
+    if verdict.number() != 0 {
+        return verdict;
     }
-    t
+    replace_accepted(
+        codes,
+        types,
+        cats,
+        pre_types,
+        pre_cats,
+        post_types,
+        post_cats,
+        base,
+        features,
+        mongolian,
+        actions,
+        masks,
+        place,
+        code,
+        joining_type,
+        category,
+    );
+    verdict
 }

@@ -32,7 +32,7 @@ returns : tie.Need-returns Inv-loop μ-loop
 returns c =
     let l = c .before .before .before .before .loop in
     let cs = c .before .before .before .before .before .before .args .codes .now in
-    sym (l .inv .1 ∙ base-here cs (l .i) (c .before .before .before .loop-test .taken) (sym (c .before .is-selector .ensures) ∙ not-true _ (c .if1 .taken)))
+    sym (l .inv .1 ∙ base-here cs (l .i) (omega (arith, c .before .before .before .loop-test .taken)) (sym (c .before .is-selector .ensures) ∙ not-true _ (c .if1 .taken)))
 
 sub-i : tie.Need-sub-i Inv-loop μ-loop
 sub-i c = search needs
@@ -44,7 +44,7 @@ loop-again : tie.Need-loop-again Inv-loop μ-loop
 loop-again c =
     let l = c .before .before .before .before .loop in
     let cs = c .before .before .before .before .before .before .args .codes .now in
-    (search needs, l .inv .1 ∙ base-skips cs (l .i) (c .before .before .before .loop-test .taken) (sym (c .before .is-selector .ensures) ∙ not-false _ (c .if1 .left)))
+    (search needs, l .inv .1 ∙ base-skips cs (l .i) (omega (arith, c .before .before .before .loop-test .taken)) (sym (c .before .is-selector .ensures) ∙ not-false _ (c .if1 .left)))
 
 returns-2 : tie.Need-returns-2 Inv-loop μ-loop
 returns-2 c =

@@ -1,4 +1,4 @@
--- `replacing::put` meets its contract: what is renewed up to a record.
+-- `renewing::put` meets its contract: what is renewed up to a record.
 -- Assumes nothing.
 use mathlib.Core.Path.{_≡_, refl, sym}
 use mathlib.Core.Bool.{_&&_}
@@ -7,10 +7,10 @@ use native.Mathlib.Omega.{arith}
 use borrow.Author.Needs.{needs}
 use lib.ListN.{length, getD, length-set}
 use Rattle.masks.specs.Masks.{mask}
-use Rattle.replacing.specs.Replaced.{renewed}
-use Rattle.replacing.proofs.RenewLaws.{span, span-begins, span-next, span-ends}
-use Rattle.replacing.proofs.put.Statement.{statement}
-use Rattle.replacing.proofs.put.Tie as tie
+use Rattle.renewing.specs.Renewed.{renewed}
+use Rattle.renewing.proofs.RenewLaws.{span, span-begins, span-next, span-ends}
+use Rattle.renewing.proofs.put.Statement.{statement}
+use Rattle.renewing.proofs.put.Tie as tie
 
 abbrev Inv-loop : tie.InvT-loop
 Inv-loop base features k end action actions₀ masks₀ i₀ actions masks i =

@@ -1,9 +1,9 @@
--- `replacing::reach_end` meets its contract.
+-- `renewing::reach_end` meets its contract.
 -- Assumes nothing.
 use native.Mathlib.Omega.{arith}
 use borrow.Author.Needs.{needs}
-use Rattle.replacing.proofs.reach_end.Statement.{statement}
-use Rattle.replacing.proofs.reach_end.Tie as tie
+use Rattle.renewing.proofs.reach_end.Statement.{statement}
+use Rattle.renewing.proofs.reach_end.Tie as tie
 
 add-run-end : tie.Need-add-run-end
 add-run-end c = search needs

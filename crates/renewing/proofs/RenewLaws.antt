@@ -10,7 +10,7 @@ use borrow.Author.Tests.{ltb-true, ltb-false, eqb-true, eqb-false, le-leb, lt-le
 use lib.Dec.{eqb, leb, ltb}
 use lib.ListN.{length, getD, set, length-set}
 use lib.Seq.{getD-set-same, getD-set-other, ext-getD}
-use Rattle.replacing.specs.Replaced.{renewed}
+use Rattle.renewing.specs.Renewed.{renewed}
 
 pub length-renewed : (at : ℕ → Bool) (fresh : ℕ → ℕ) (xs : List ℕ) → length (renewed at fresh xs) ≡ length xs
 length-renewed at fresh [] = refl

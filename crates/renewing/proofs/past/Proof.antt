@@ -1,10 +1,10 @@
--- `replacing::past` meets its contract.
+-- `renewing::past` meets its contract.
 -- Assumes nothing.
 use mathlib.Core.Path.{refl}
 use borrow.Author.Tests.{eq-eqb, ne-eqb}
 use Rattle.letters.specs.Types.{T}
-use Rattle.replacing.proofs.past.Statement.{statement}
-use Rattle.replacing.proofs.past.Tie as tie
+use Rattle.renewing.proofs.past.Statement.{statement}
+use Rattle.renewing.proofs.past.Tie as tie
 
 returns : tie.Need-returns
 returns c = simp (eq-eqb (c .before .before .args .t) T (c .if1 .taken)) refl

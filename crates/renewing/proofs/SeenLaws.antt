@@ -1,0 +1,34 @@
+-- What the letters beside a place see of each other past the letter at the place: `seen-ahead`, `seen-back`.
+-- Assumes nothing.
+use mathlib.Core.Path.{_≡_, sym, _∙_}
+use mathlib.Core.List.{List}
+use Prim.Native.Nat.{ℕ, _+_, _<_}
+use native.Mathlib.Omega.{arith}
+use lib.ListN.{length, getD, take, drop}
+use Rattle.letters.specs.Types.{resolved}
+use Rattle.shapes.specs.Joining.{passed, latest, nearest, lineTypes}
+use Rattle.shapes.specs.Places.{placeBefore, placeOf}
+use Rattle.shapes.proofs.JoiningLaws.{length-lineTypes, lineTypes-at}
+use Rattle.neighbours.proofs.NeighbourLaws.{nearest-here, latest-here, letter-across, letter-back}
+use Rattle.joining.specs.Joinable.{Joinable}
+
+module _ {types cats : List ℕ} (letters : Joinable types cats) (k t : ℕ) (h : k < length types) (e : t ≡ resolved (getD types k 0) (getD cats k 0)) where
+  abbrev ts : List ℕ
+  ts = lineTypes types cats
+
+  here : getD ts k 0 ≡ t
+  here = lineTypes-at types cats k (letters .even) h ∙ sym e
+
+  size : length ts ≡ length types
+  size = length-lineTypes types cats (letters .even)
+
+  -- q sees t or, past it, the letter n
+  pub seen-ahead :
+      (a q n r : ℕ) → q ≡ placeBefore ts k → n ≡ nearest (drop (k + 1) ts) a → r ≡ passed n t → q < length types → r ≡ nearest (drop (q + 1) ts) a
+  seen-ahead a q n r eq en er l =
+      er ∙ sym (letter-across ts k q a eq (omega (arith, size)) ∙ nearest-here ts k (omega (arith, size)) a ∙ rw (here, ← en))
+
+  -- n sees t or, past it, the letter q
+  pub seen-back :
+      (b q n r : ℕ) → q ≡ latest b (take k ts) → n ≡ k + 1 + placeOf (drop (k + 1) ts) → r ≡ passed q t → r ≡ latest b (take n ts)
+  seen-back b q n r eq en er = er ∙ sym (letter-back ts k n b en ∙ latest-here ts k (omega (arith, size)) b ∙ rw (here, ← eq))

@@ -1,0 +1,45 @@
+-- `renewing::renew` meets its contract: one action for all that the record reaches.
+-- Assumes nothing.
+use mathlib.Core.Path.{sym, _∙_}
+use native.Mathlib.Omega.{arith}
+use borrow.Author.Needs.{needs}
+use Rattle.renewing.proofs.FreshLaws.{reach-within}
+use Rattle.renewing.proofs.HeldLaws.{line-renewed}
+use Rattle.renewing.proofs.renew.Statement.{statement}
+use Rattle.renewing.proofs.renew.Tie as tie
+
+fresh-action-requires : tie.Need-fresh-action-requires
+fresh-action-requires c κs = search needs
+
+reach-end-requires : tie.Need-reach-end-requires
+reach-end-requires c κs = search needs
+
+put-requires : tie.Need-put-requires
+put-requires c κs =
+    let s = c .before .before .before .before .before .before .before .before .before .before in
+    let held = s .pre .0 in
+    let reach = reach-within (s .args .mongolian) (s .args .codes .now) (s .args .k) _ (c .before .before .reach-end .ensures) (omega (arith, held .codes, s .pre .1 .0)) in
+    ((held .features, reach .0, omega (arith, reach .1, held .codes, held .base)), (held .actions ∙ sym (held .base), held .masks ∙ sym (held .base)))
+
+same-length : tie.Need-same-length
+same-length c = search needs
+
+same-length-2 : tie.Need-same-length-2
+same-length-2 c = search needs
+
+returns : tie.Need-returns
+returns c =
+    let s = c .before .before .before .before .before .before .before .before .before .before .before .before .before .before .before in
+    let done = c .before .before .before .before .put .ensures in
+    line-renewed (s .pre .0) (s .args .k) _ _ _ _ (c .before .before .before .before .before .before .before .before .fresh-action .ensures) (c .before .before .before .before .before .before .before .reach-end .ensures) (done .0) (done .1)
+
+pub renew-spec : {M : Type 1} → statement M
+renew-spec =
+    tie.close
+    (tie.spec
+    fresh-action-requires
+    reach-end-requires
+    put-requires
+    same-length
+    same-length-2
+    returns)

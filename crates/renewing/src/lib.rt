@@ -1,0 +1,270 @@
+// Renewing: the records that a new letter touches get what fresh joining gives, by a walk outward from its place, to the second letter on each side.
+ghost use mathlib.Core.Path.{_≡_};
+ghost use mathlib.Core.Bool.{cond, _&&_};
+ghost use Prim.Native.Nat.{_+_, _<_, _≤_};
+ghost use lib.Dec.{leb, ltb};
+ghost use lib.ListN.{length, getD, take, drop};
+ghost use Rattle.shapes.specs.Joining.{passed, latest, nearest, lineTypes};
+ghost use Rattle.selectors.specs.Selectors.{run, base as baseOf};
+ghost use Rattle.masks.specs.Masks.{mask};
+ghost use Rattle.joining.specs.Joinable.{Joinable};
+ghost use Rattle.lines.specs.Held.{frameBy, lineOf};
+ghost use Rattle.lines.specs.Joined.{actionsBetween};
+ghost use Rattle.renewing.specs.Renewed.{reached, touched, renewed, renewedLine};
+ghost use Rattle.renewing.specs.Renewing.{Renewable};
+use letters::Action;
+use letters::JoiningType;
+
+// Where the record stands whose action the one at `k` has. In a Mongolian line a selector has that of a record before it.
+fn home(mongolian: bool, codes: &[u32], k: usize) -> usize
+    requires { ⌜ k < length (now codes) ⌝ }
+    ensures { λ r. ⌜ r ≡ cond mongolian (baseOf (now (codes .entry)) k) k ⌝ }
+{
+    if mongolian {
+        return selectors::base_of(codes, k);
+    }
+    k
+}
+
+// Where the run of selectors directly behind the record at `k` ends, which only a Mongolian line has.
+fn reach_end(mongolian: bool, codes: &[u32], k: usize) -> usize
+    requires { ⌜ k < length (now codes) ⌝ }
+    ensures { λ r. ⌜ r ≡ k + 1 + cond mongolian (run (drop (k + 1) (now (codes .entry)))) 0 ⌝ }
+{
+    if mongolian {
+        return selectors::run_end(codes, k + 1);
+    }
+    k + 1
+}
+
+// The action that fresh joining gives the record at `k`, which stands between the letters `p` and `n`. A selector's home stands between others.
+fn fresh_action(
+    codes: &[u32],
+    types: &[u8],
+    cats: &[u8],
+    before: u8,
+    behind: u8,
+    mongolian: bool,
+    k: usize,
+    p: u8,
+    n: u8,
+) -> Action
+    requires { ⌜ Joinable (now types) (now cats) ⌝ }
+    requires { ⌜ (length (now codes) ≡ length (now types)) × (k < length (now types)) ⌝ }
+    requires { ⌜ (p ≡ latest before (take k (lineTypes (now types) (now cats)))) × (n ≡ nearest (drop (k + 1) (lineTypes (now types) (now cats))) behind) ⌝ }
+    ensures { λ r. ⌜ r .0 ≡ getD (actionsBetween mongolian (now (codes .entry)) before (lineTypes (now (types .entry)) (now (cats .entry))) behind) k 0 ⌝ }
+{
+    let at = home(mongolian, codes, k);
+    let t = joining::type_at(types, cats, at);
+    if at == k {
+        return shapes::form_of(JoiningType(p), JoiningType(t), JoiningType(n));
+    }
+    let q = neighbours::letter_before(types, cats, at, before);
+    let m = neighbours::letter_from(types, cats, at + 1, behind);
+    shapes::form_of(JoiningType(q.letter), JoiningType(t), JoiningType(m.letter))
+}
+
+// The records from `k` to before `end` get an action, and their masks by it.
+fn put(
+    base: &[u32],
+    features: &[u32; 7],
+    k: usize,
+    end: usize,
+    action: Action,
+    actions: &mut [u8],
+    masks: &mut [u32],
+)
+    requires { ⌜ (length (now features) ≡ 7) × (k ≤ end) × (end ≤ length (now base)) ⌝ }
+    requires { ⌜ (length (now actions) ≡ length (now base)) × (length (now masks) ≡ length (now base)) ⌝ }
+    ensures actions { λ _. ⌜ now (actions .exit) ≡ renewed (λ j. leb k j && ltb j end) (λ j. action .0) (now (actions .entry)) ⌝ }
+    ensures masks { λ _. ⌜ now (masks .exit) ≡ renewed (λ j. leb k j && ltb j end) (λ j. mask (now (features .entry)) (getD (now (base .entry)) j 0) (action .0)) (now (masks .entry)) ⌝ }
+{
+    let mut i = k;
+    while i < end {
+        actions[i] = action.0;
+        masks[i] = masks::mask_of(features, base[i], action);
+        i += 1;
+    }
+}
+
+// The record at `k`, which stands between the letters `p` and `n`, and the run of selectors directly behind it get what fresh joining gives.
+fn renew(
+    codes: &[u32],
+    types: &[u8],
+    cats: &[u8],
+    before: u8,
+    behind: u8,
+    base: &[u32],
+    features: &[u32; 7],
+    mongolian: bool,
+    k: usize,
+    p: u8,
+    n: u8,
+    actions: &mut [u8],
+    masks: &mut [u32],
+)
+    requires { ⌜ Renewable (frameBy before behind (now features) mongolian) (lineOf (now codes) (now types) (now cats) (now base) (now actions) (now masks)) ⌝ }
+    requires { ⌜ k < length (now types) ⌝ }
+    requires { ⌜ (p ≡ latest before (take k (lineTypes (now types) (now cats)))) × (n ≡ nearest (drop (k + 1) (lineTypes (now types) (now cats))) behind) ⌝ }
+    ensures { λ _. ⌜ lineOf (now (codes .entry)) (now (types .entry)) (now (cats .entry)) (now (base .entry)) (now (actions .exit)) (now (masks .exit)) ≡ renewedLine (frameBy before behind (now (features .entry)) mongolian) (reached mongolian (now (codes .entry)) k) (lineOf (now (codes .entry)) (now (types .entry)) (now (cats .entry)) (now (base .entry)) (now (actions .entry)) (now (masks .entry))) ⌝ }
+{
+    let action = fresh_action(codes, types, cats, before, behind, mongolian, k, p, n);
+    let end = reach_end(mongolian, codes, k);
+    put(base, features, k, end, action, actions, masks);
+}
+
+// The same of the nearest letter before a place, if there is one; `n` is the letter behind it.
+fn renew_before(
+    codes: &[u32],
+    types: &[u8],
+    cats: &[u8],
+    before: u8,
+    behind: u8,
+    base: &[u32],
+    features: &[u32; 7],
+    mongolian: bool,
+    k: usize,
+    n: u8,
+    actions: &mut [u8],
+    masks: &mut [u32],
+)
+    requires { ⌜ Renewable (frameBy before behind (now features) mongolian) (lineOf (now codes) (now types) (now cats) (now base) (now actions) (now masks)) ⌝ }
+    requires { ⌜ (k < length (now types) → n ≡ nearest (drop (k + 1) (lineTypes (now types) (now cats))) behind) ⌝ }
+    ensures { λ _. ⌜ lineOf (now (codes .entry)) (now (types .entry)) (now (cats .entry)) (now (base .entry)) (now (actions .exit)) (now (masks .exit)) ≡ renewedLine (frameBy before behind (now (features .entry)) mongolian) (reached mongolian (now (codes .entry)) k) (lineOf (now (codes .entry)) (now (types .entry)) (now (cats .entry)) (now (base .entry)) (now (actions .entry)) (now (masks .entry))) ⌝ }
+{
+    if k < types.len() {
+        let q = neighbours::letter_before(types, cats, k, before);
+        renew(
+            codes,
+            types,
+            cats,
+            before,
+            behind,
+            base,
+            features,
+            mongolian,
+            k,
+            q.letter,
+            n,
+            actions,
+            masks,
+        );
+    }
+}
+
+// And of the nearest letter behind a place; `p` is the letter before it.
+fn renew_behind(
+    codes: &[u32],
+    types: &[u8],
+    cats: &[u8],
+    before: u8,
+    behind: u8,
+    base: &[u32],
+    features: &[u32; 7],
+    mongolian: bool,
+    k: usize,
+    p: u8,
+    actions: &mut [u8],
+    masks: &mut [u32],
+)
+    requires { ⌜ Renewable (frameBy before behind (now features) mongolian) (lineOf (now codes) (now types) (now cats) (now base) (now actions) (now masks)) ⌝ }
+    requires { ⌜ (k < length (now types) → p ≡ latest before (take k (lineTypes (now types) (now cats)))) ⌝ }
+    ensures { λ _. ⌜ lineOf (now (codes .entry)) (now (types .entry)) (now (cats .entry)) (now (base .entry)) (now (actions .exit)) (now (masks .exit)) ≡ renewedLine (frameBy before behind (now (features .entry)) mongolian) (reached mongolian (now (codes .entry)) k) (lineOf (now (codes .entry)) (now (types .entry)) (now (cats .entry)) (now (base .entry)) (now (actions .entry)) (now (masks .entry))) ⌝ }
+{
+    if k < types.len() {
+        let m = neighbours::letter_from(types, cats, k + 1, behind);
+        renew(
+            codes,
+            types,
+            cats,
+            before,
+            behind,
+            base,
+            features,
+            mongolian,
+            k,
+            p,
+            m.letter,
+            actions,
+            masks,
+        );
+    }
+}
+
+// The letter that is seen past a letter `t`: `far` if it is transparent.
+fn past(far: u8, t: u8) -> u8
+    ensures { λ r. ⌜ r ≡ passed far t ⌝ }
+{
+    if t == JoiningType::T.0 {
+        return far;
+    }
+    t
+}
+
+// The letter at `k` is new: it, the letters beside it and the runs of selectors behind them get what fresh joining gives.
+pub fn refresh(
+    codes: &[u32],
+    types: &[u8],
+    cats: &[u8],
+    before: u8,
+    behind: u8,
+    base: &[u32],
+    features: &[u32; 7],
+    mongolian: bool,
+    k: usize,
+    actions: &mut [u8],
+    masks: &mut [u32],
+)
+    requires { ⌜ Renewable (frameBy before behind (now features) mongolian) (lineOf (now codes) (now types) (now cats) (now base) (now actions) (now masks)) ⌝ }
+    requires { ⌜ k < length (now types) ⌝ }
+    ensures { λ _. ⌜ lineOf (now (codes .entry)) (now (types .entry)) (now (cats .entry)) (now (base .entry)) (now (actions .exit)) (now (masks .exit)) ≡ renewedLine (frameBy before behind (now (features .entry)) mongolian) (touched (frameBy before behind (now (features .entry)) mongolian) (lineOf (now (codes .entry)) (now (types .entry)) (now (cats .entry)) (now (base .entry)) (now (actions .entry)) (now (masks .entry))) k) (lineOf (now (codes .entry)) (now (types .entry)) (now (cats .entry)) (now (base .entry)) (now (actions .entry)) (now (masks .entry))) ⌝ }
+{
+    let t = joining::type_at(types, cats, k);
+    let q = neighbours::letter_before(types, cats, k, before);
+    let n = neighbours::letter_from(types, cats, k + 1, behind);
+    let ahead = past(n.letter, t);
+    let back = past(q.letter, t);
+    renew_behind(
+        codes,
+        types,
+        cats,
+        before,
+        behind,
+        base,
+        features,
+        mongolian,
+        n.place,
+        back,
+        actions,
+        masks,
+    );
+    renew_before(
+        codes,
+        types,
+        cats,
+        before,
+        behind,
+        base,
+        features,
+        mongolian,
+        q.place,
+        ahead,
+        actions,
+        masks,
+    );
+    renew(
+        codes,
+        types,
+        cats,
+        before,
+        behind,
+        base,
+        features,
+        mongolian,
+        k,
+        q.letter,
+        n.letter,
+        actions,
+        masks,
+    );
+}

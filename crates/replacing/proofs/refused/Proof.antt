@@ -1,0 +1,66 @@
+-- `replacing::refused` meets its contract: the rows of joining, with those that replacing adds.
+-- Assumes nothing.
+use mathlib.Core.Path.{_≡_, refl}
+use mathlib.Core.Bool.{Bool, false, _||_}
+use mathlib.Core.List.{[], _∷_}
+use borrow.Author.Needs.{needs}
+use Rattle.laws.specs.Rows.{Given, first, sooner}
+use Rattle.laws.proofs.RowLaws.{sooner-first}
+use Rattle.lines.specs.Held.{Line, lettersOf, lineOf}
+use Rattle.lines.specs.Joined.{evenLine, uneven, tooLong, strange}
+use Rattle.replacing.specs.Replaced.{requestOf, strangeRequest, outside}
+use Rattle.replacing.proofs.refused.Statement.{statement}
+use Rattle.replacing.proofs.refused.Tie as tie
+
+table :
+    (a b c d e : Bool)
+    → sooner (first (Given 1 a ∷ Given 2 b ∷ Given 3 c ∷ [])) (sooner (first (Given 3 d ∷ [])) (first (Given 4 e ∷ [])))
+    ≡ first (Given 1 a ∷ Given 2 b ∷ Given 3 (c || d) ∷ Given 4 e ∷ [])
+table a b c d e =
+    rw (sooner-first (Given 3 d ∷ []) (Given 4 e ∷ []) refl refl)
+    (sooner-first (Given 1 a ∷ Given 2 b ∷ Given 3 c ∷ []) (Given 3 d ∷ Given 4 e ∷ []) refl refl)
+
+even-line-requires : tie.Need-even-line-requires
+even-line-requires c κs = search needs
+
+refused-requires : tie.Need-refused-requires
+refused-requires c κs = search needs
+
+within-requires : tie.Need-within-requires
+within-requires c κs = search needs
+
+unless-requires : tie.Need-unless-requires
+unless-requires c κs = search needs
+
+unless-requires-2 : tie.Need-unless-requires-2
+unless-requires-2 c κs = search needs
+
+sooner-requires : tie.Need-sooner-requires
+sooner-requires c κs = search needs
+
+sooner-requires-2 : tie.Need-sooner-requires-2
+sooner-requires-2 c κs = search needs
+
+returns : tie.Need-returns
+returns c =
+    let a = c .before .before .before .before .before .before .before .before .before .before .before .before .before .before .before .before .before .before .before .before .before .args in
+    let line = lineOf (a .codes .now) (a .types .now) (a .cats .now) (a .base .now) (a .actions .now) (a .masks .now) in
+    let asked = requestOf (a .place) 0 (a .joining-type .0) (a .category .0) in
+    let pre = lettersOf (a .pre-types .now) (a .pre-cats .now) in
+    let post = lettersOf (a .post-types .now) (a .post-cats .now) in
+    rw
+    (c .sooner2 .ensures, c .before .sooner .ensures, c .before .before .unless2 .ensures, c .before .before .before .unless .ensures, c .before .before .before .before .before .before .before .before .within .ensures, c .before .before .before .before .before .before .before .before .before .refused .ensures, c .before .before .before .before .before .before .before .before .before .before .even-line .ensures)
+    (table (uneven (evenLine line) pre post) (tooLong (line .letters) pre post) (strange (line .letters) pre post) (strangeRequest asked line) (outside asked line))
+
+pub refused-spec : {M : Type 1} → statement M
+refused-spec =
+    tie.close
+    (tie.spec
+    even-line-requires
+    refused-requires
+    within-requires
+    unless-requires
+    unless-requires-2
+    sooner-requires
+    sooner-requires-2
+    returns)

@@ -87,7 +87,8 @@ fn put(
     }
 }
 
-// The record at `k`, which stands between the letters `p` and `n`, and the run of selectors directly behind it get what fresh joining gives.
+// The record at `k`, which stands between the letters `p` and `n`, and the run of selectors directly behind it get what fresh joining gives. Where there
+// is no such record, nothing does.
 fn renew(
     codes: &[u32],
     types: &[u8],
@@ -104,91 +105,39 @@ fn renew(
     masks: &mut [u32],
 )
     requires { ⌜ Renewable (frameBy before behind (now features) mongolian) (lineOf (now codes) (now types) (now cats) (now base) (now actions) (now masks)) ⌝ }
-    requires { ⌜ k < length (now types) ⌝ }
-    requires { ⌜ (p ≡ latest before (take k (lineTypes (now types) (now cats)))) × (n ≡ nearest (drop (k + 1) (lineTypes (now types) (now cats))) behind) ⌝ }
-    ensures { λ _. ⌜ lineOf (now (codes .entry)) (now (types .entry)) (now (cats .entry)) (now (base .entry)) (now (actions .exit)) (now (masks .exit)) ≡ renewedLine (frameBy before behind (now (features .entry)) mongolian) (reached mongolian (now (codes .entry)) k) (lineOf (now (codes .entry)) (now (types .entry)) (now (cats .entry)) (now (base .entry)) (now (actions .entry)) (now (masks .entry))) ⌝ }
-{
-    let action = fresh_action(codes, types, cats, before, behind, mongolian, k, p, n);
-    let end = reach_end(mongolian, codes, k);
-    put(base, features, k, end, action, actions, masks);
-}
-
-// The same of the nearest letter before a place, if there is one; `n` is the letter behind it.
-fn renew_before(
-    codes: &[u32],
-    types: &[u8],
-    cats: &[u8],
-    before: u8,
-    behind: u8,
-    base: &[u32],
-    features: &[u32; 7],
-    mongolian: bool,
-    k: usize,
-    n: u8,
-    actions: &mut [u8],
-    masks: &mut [u32],
-)
-    requires { ⌜ Renewable (frameBy before behind (now features) mongolian) (lineOf (now codes) (now types) (now cats) (now base) (now actions) (now masks)) ⌝ }
+    requires { ⌜ (k < length (now types) → p ≡ latest before (take k (lineTypes (now types) (now cats)))) ⌝ }
     requires { ⌜ (k < length (now types) → n ≡ nearest (drop (k + 1) (lineTypes (now types) (now cats))) behind) ⌝ }
     ensures { λ _. ⌜ lineOf (now (codes .entry)) (now (types .entry)) (now (cats .entry)) (now (base .entry)) (now (actions .exit)) (now (masks .exit)) ≡ renewedLine (frameBy before behind (now (features .entry)) mongolian) (reached mongolian (now (codes .entry)) k) (lineOf (now (codes .entry)) (now (types .entry)) (now (cats .entry)) (now (base .entry)) (now (actions .entry)) (now (masks .entry))) ⌝ }
 {
     if k < types.len() {
-        let q = neighbours::letter_before(types, cats, k, before);
-        renew(
-            codes,
-            types,
-            cats,
-            before,
-            behind,
-            base,
-            features,
-            mongolian,
-            k,
-            q.letter,
-            n,
-            actions,
-            masks,
-        );
+        let action = fresh_action(codes, types, cats, before, behind, mongolian, k, p, n);
+        let end = reach_end(mongolian, codes, k);
+        put(base, features, k, end, action, actions, masks);
     }
 }
 
-// And of the nearest letter behind a place; `p` is the letter before it.
-fn renew_behind(
-    codes: &[u32],
-    types: &[u8],
-    cats: &[u8],
-    before: u8,
-    behind: u8,
-    base: &[u32],
-    features: &[u32; 7],
-    mongolian: bool,
-    k: usize,
-    p: u8,
-    actions: &mut [u8],
-    masks: &mut [u32],
-)
-    requires { ⌜ Renewable (frameBy before behind (now features) mongolian) (lineOf (now codes) (now types) (now cats) (now base) (now actions) (now masks)) ⌝ }
-    requires { ⌜ (k < length (now types) → p ≡ latest before (take k (lineTypes (now types) (now cats)))) ⌝ }
-    ensures { λ _. ⌜ lineOf (now (codes .entry)) (now (types .entry)) (now (cats .entry)) (now (base .entry)) (now (actions .exit)) (now (masks .exit)) ≡ renewedLine (frameBy before behind (now (features .entry)) mongolian) (reached mongolian (now (codes .entry)) k) (lineOf (now (codes .entry)) (now (types .entry)) (now (cats .entry)) (now (base .entry)) (now (actions .entry)) (now (masks .entry))) ⌝ }
+// The nearest letter before the record at `k`, if there is such a record.
+fn further_before(types: &[u8], cats: &[u8], k: usize, before: u8) -> u8
+    requires { ⌜ Joinable (now types) (now cats) ⌝ }
+    ensures { λ r. ⌜ (k < length (now (types .entry)) → r ≡ latest before (take k (lineTypes (now (types .entry)) (now (cats .entry))))) ⌝ }
 {
     if k < types.len() {
-        let m = neighbours::letter_from(types, cats, k + 1, behind);
-        renew(
-            codes,
-            types,
-            cats,
-            before,
-            behind,
-            base,
-            features,
-            mongolian,
-            k,
-            p,
-            m.letter,
-            actions,
-            masks,
-        );
+        let q = neighbours::letter_before(types, cats, k, before);
+        return q.letter;
     }
+    before
+}
+
+// The nearest letter behind the record at `k`, if there is such a record.
+fn further_behind(types: &[u8], cats: &[u8], k: usize, behind: u8) -> u8
+    requires { ⌜ Joinable (now types) (now cats) ⌝ }
+    ensures { λ r. ⌜ (k < length (now (types .entry)) → r ≡ nearest (drop (k + 1) (lineTypes (now (types .entry)) (now (cats .entry)))) behind) ⌝ }
+{
+    if k < types.len() {
+        let n = neighbours::letter_from(types, cats, k + 1, behind);
+        return n.letter;
+    }
+    behind
 }
 
 // The letter that is seen past a letter `t`: `far` if it is transparent.
@@ -222,9 +171,12 @@ pub fn refresh(
     let t = joining::type_at(types, cats, k);
     let q = neighbours::letter_before(types, cats, k, before);
     let n = neighbours::letter_from(types, cats, k + 1, behind);
-    let ahead = past(n.letter, t);
-    let back = past(q.letter, t);
-    renew_behind(
+    let back = further_before(types, cats, q.place, before);
+    let ahead = further_behind(types, cats, n.place, behind);
+    // past the new letter, if it is transparent, the letters beside it see each other
+    let seen_back = past(q.letter, t);
+    let seen_ahead = past(n.letter, t);
+    renew(
         codes,
         types,
         cats,
@@ -234,11 +186,12 @@ pub fn refresh(
         features,
         mongolian,
         n.place,
-        back,
+        seen_back,
+        ahead,
         actions,
         masks,
     );
-    renew_before(
+    renew(
         codes,
         types,
         cats,
@@ -248,7 +201,8 @@ pub fn refresh(
         features,
         mongolian,
         q.place,
-        ahead,
+        back,
+        seen_ahead,
         actions,
         masks,
     );

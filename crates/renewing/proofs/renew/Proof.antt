@@ -1,24 +1,27 @@
--- `renewing::renew` meets its contract: one action for all that the record reaches.
+-- `renewing::renew` meets its contract: one action for all that the record reaches; where there is no such record, the line stays.
 -- Assumes nothing.
 use mathlib.Core.Path.{sym, _∙_}
 use native.Mathlib.Omega.{arith}
 use borrow.Author.Needs.{needs}
 use Rattle.renewing.proofs.FreshLaws.{reach-within}
-use Rattle.renewing.proofs.HeldLaws.{line-renewed}
+use Rattle.renewing.proofs.HeldLaws.{line-renewed, line-stays}
 use Rattle.renewing.proofs.renew.Statement.{statement}
 use Rattle.renewing.proofs.renew.Tie as tie
 
 fresh-action-requires : tie.Need-fresh-action-requires
-fresh-action-requires c κs = search needs
+fresh-action-requires c κs =
+    let s = c .before .before .before .before .before .before .before in
+    let h = c .if1 .taken in
+    (s .pre .0 .letters, ((s .pre .0 .codes, h), (s .pre .1 .0 h, s .pre .1 .1 h)))
 
 reach-end-requires : tie.Need-reach-end-requires
 reach-end-requires c κs = search needs
 
 put-requires : tie.Need-put-requires
 put-requires c κs =
-    let s = c .before .before .before .before .before .before .before .before .before .before in
+    let s = c .before .before .before .before .before .before .before .before .before .before .before in
     let held = s .pre .0 in
-    let reach = reach-within (s .args .mongolian) (s .args .codes .now) (s .args .k) _ (c .before .before .reach-end .ensures) (omega (arith, held .codes, s .pre .1 .0)) in
+    let reach = reach-within (s .args .mongolian) (s .args .codes .now) (s .args .k) _ (c .before .before .reach-end .ensures) (omega (arith, held .codes, c .before .before .before .before .if1 .taken)) in
     ((held .features, reach .0, omega (arith, reach .1, held .codes, held .base)), (held .actions ∙ sym (held .base), held .masks ∙ sym (held .base)))
 
 same-length : tie.Need-same-length
@@ -29,9 +32,12 @@ same-length-2 c = search needs
 
 returns : tie.Need-returns
 returns c =
-    let s = c .before .before .before .before .before .before .before .before .before .before .before .before .before .before .before in
+    let s = c .before .before .before .before .before .before .before .before .before .before .before .before .before .before .before .before in
     let done = c .before .before .before .before .put .ensures in
     line-renewed (s .pre .0) (s .args .k) _ _ _ _ (c .before .before .before .before .before .before .before .before .fresh-action .ensures) (c .before .before .before .before .before .before .before .reach-end .ensures) (done .0) (done .1)
+
+returns-2 : tie.Need-returns-2
+returns-2 c = let s = c .before .before .before .before .before .before .before in line-stays (s .pre .0) (s .args .k) (c .if1 .left)
 
 pub renew-spec : {M : Type 1} → statement M
 renew-spec =
@@ -42,4 +48,5 @@ renew-spec =
     put-requires
     same-length
     same-length-2
-    returns)
+    returns
+    returns-2)

@@ -1,5 +1,5 @@
 -- What is known of a line that is not refused (`accepted`, `no-row`); then of every call on a line: what it leaves where it is refused and where it is not, and that
--- its statement allows one answer and one line (`same-left`).
+-- its statement allows one answer and one line (`same-left`). And of lines: as many fresh actions as letters; lines that differ in actions and masks alone.
 -- Assumes nothing.
 use mathlib.Core.Path.{_≡_, refl, sym, ap, _∙_}
 use mathlib.Core.Bool.{Bool, true, false, cond, not, _&&_, and-eq-true-iff}
@@ -16,9 +16,13 @@ use Rattle.refusals.proofs.VerdictLaws.{same-said}
 use Rattle.refusals.specs.Columns.{atMost}
 use Rattle.letters.specs.Types.{X}
 use Rattle.letters.specs.Categories.{Zs}
+use Rattle.shapes.specs.Joining.{form, eachBetween}
+use Rattle.shapes.proofs.JoiningLaws.{length-each}
+use Rattle.selectors.specs.Selectors.{settled}
+use Rattle.selectors.proofs.SelectorLaws.{length-settled}
 use Rattle.joining.specs.Joinable.{Joinable}
-use Rattle.lines.specs.Held.{Letters, Setting, Line, Left, After, leaves}
-use Rattle.lines.specs.Joined.{sized, evenLetters, evenLine, lineLimit, contextLimit, limited, knownLetters, uneven, tooLong, strange, refusalRows, refusal}
+use Rattle.lines.specs.Held.{Letters, Setting, Frame, Line, Left, After, leaves}
+use Rattle.lines.specs.Joined.{typesOf, freshActions, sized, evenLetters, evenLine, lineLimit, contextLimit, limited, knownLetters, uneven, tooLong, strange, refusalRows, refusal}
 
 -- two tests that both passed
 passed : (a b : Bool) → (a && b) ≡ true → (a ≡ true) × (b ≡ true)
@@ -124,3 +128,22 @@ pub left-smallest :
 left-smallest rows up old new n m e =
     let same : n ≡ first rows = left-number (first rows) old new n m e in
     (λ d. rw same (first-applies rows (λ z. d (same ∙ z))), λ k h. rw same (first-given 0 up h, first-smallest 0 up h))
+
+-- ---- fresh actions
+pub length-fresh : (f : Frame) (l : Line) → length (freshActions f l) ≡ length (typesOf (l .letters))
+length-fresh f l = go (f .mongolian)
+  where
+    joined : List ℕ
+    joined = eachBetween form (f .before) (typesOf (l .letters)) (f .behind)
+
+    go : (mongolian : Bool) → length (cond mongolian (settled (l .codes) joined) joined) ≡ length (typesOf (l .letters))
+    go true = length-settled (l .codes) joined ∙ length-each form (f .before) (typesOf (l .letters)) (f .behind)
+    go false = length-each form (f .before) (typesOf (l .letters)) (f .behind)
+
+-- lines that differ in actions and masks alone
+abbrev pub formed : List ℕ → Letters → List ℕ → List ℕ → List ℕ → Line
+formed codes letters base actions masks = record { codes = codes; letters = letters; base = base; actions = actions; masks = masks }
+
+pub same-line :
+    (codes : List ℕ) (letters : Letters) (base : List ℕ) {a b m n : List ℕ} → a ≡ b → m ≡ n → formed codes letters base a m ≡ formed codes letters base b n
+same-line codes letters base e d = λ i. formed codes letters base (e i) (d i)

@@ -14,10 +14,11 @@ use Rattle.masks.specs.Masks.{masks}
 use Rattle.masks.proofs.MaskLaws.{length-masks}
 use Rattle.lines.specs.Held.{Setting, Line}
 use Rattle.lines.specs.Joined.{typesOf, frameOf, freshActions, freshLine}
+use Rattle.lines.proofs.LineLaws.{length-fresh, same-line}
 use Rattle.renewing.specs.Renewed.{touched, renewed}
 use Rattle.replacing.specs.Replaced.{Request, changed, replacedLine}
 use Rattle.renewing.proofs.RenewLaws.{length-renewed, renewed-at}
-use Rattle.replacing.proofs.LocalLaws.{TouchesIn, touched-touches, touches-touched, length-fresh, length-changed, untouched-action, untouched-mask}
+use Rattle.replacing.proofs.LocalLaws.{TouchesIn, touched-touches, touches-touched, length-changed, untouched-action, untouched-mask}
 use Rattle.replacing.proofs.AllowedLaws.{Allowed, length-letters}
 
 -- a column that is right wherever it is not renewed is right then
@@ -114,5 +115,4 @@ module _ (s : Setting) (r : Request) (l : Line) (a : Allowed s r l) where
       renewed-right at (l .masks) fresh masks-long
       (λ j h off. ap (λ (m : Line). getD (m .masks) j 0) now ∙ sym (untouched-mask f r l j (omega (arith, a .line .masks)) within off (s .features) (l .base) (omega (arith, a .line .masks, a .line .base))))
       in
-      ap (λ (x : List ℕ). record { codes = new .codes; letters = new .letters; base = l .base; actions = x; masks = renewed at (λ j. getD fresh j 0) (l .masks) }) actions
-      ∙ ap (λ (x : List ℕ). record { codes = new .codes; letters = new .letters; base = l .base; actions = freshActions f new; masks = x }) masked
+      same-line (new .codes) (new .letters) (l .base) actions masked

@@ -26,9 +26,9 @@ use Rattle.selectors.specs.Selectors.{selector, settled, run}
 use Rattle.selectors.proofs.RunLaws.{marked, Reaches, Rests, run-all, run-most, rests, settled-rests}
 use Rattle.masks.specs.Masks.{mask, masks}
 use Rattle.masks.proofs.MaskLaws.{masks-at}
-use Rattle.selectors.proofs.SelectorLaws.{length-settled}
 use Rattle.lines.specs.Held.{Frame, Line}
 use Rattle.lines.specs.Joined.{typesOf, freshActions}
+use Rattle.lines.proofs.LineLaws.{length-fresh}
 use Rattle.renewing.specs.Renewed.{reached, touched}
 use Rattle.replacing.specs.Replaced.{Request, changed}
 
@@ -180,16 +180,6 @@ module _ (f : Frame) (l : Line) (p j : ℕ) (within : p ≤ length (typesOf (l .
       (t .near))
 
 -- ---- a line, and the same line with a new letter
-pub length-fresh : (f : Frame) (l : Line) → length (freshActions f l) ≡ length (typesOf (l .letters))
-length-fresh f l = go (f .mongolian)
-  where
-    go :
-        (m : Bool)
-        → length (cond m (settled (l .codes) (eachBetween form (f .before) (typesOf (l .letters)) (f .behind))) (eachBetween form (f .before) (typesOf (l .letters)) (f .behind)))
-        ≡ length (typesOf (l .letters))
-    go true = length-settled (l .codes) (eachBetween form (f .before) (typesOf (l .letters)) (f .behind)) ∙ length-each form (f .before) (typesOf (l .letters)) (f .behind)
-    go false = length-each form (f .before) (typesOf (l .letters)) (f .behind)
-
 -- the action of a record is that of the letter where it rests
 fresh-rests :
     (f : Frame) (l : Line) (k j : ℕ) → Rests (marks f l) k j → j < length (typesOf (l .letters))

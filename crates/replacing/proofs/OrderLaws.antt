@@ -14,6 +14,7 @@ use lib.Seq.{ext-getD, set-comm}
 use Rattle.masks.specs.Masks.{masks}
 use Rattle.lines.specs.Held.{Setting, Frame, Line, After}
 use Rattle.lines.specs.Joined.{typesOf, frameOf, freshActions}
+use Rattle.lines.proofs.LineLaws.{same-line}
 use Rattle.renewing.specs.Renewed.{touched, renewed}
 use Rattle.replacing.specs.Replaced.{Request, changed, replacedLine, replaceRefusal, replaceAfter}
 use Rattle.renewing.proofs.RenewLaws.{length-renewed, renewed-at}
@@ -107,9 +108,7 @@ replaced-order s p q l a b d =
     (λ j h no. let o : j < length (l .letters .types) = omega (arith, a .line .masks) in (alone-touched s p q l a b j o no, alone-mask s p q l a b j o no))
     (λ j h no. let o : j < length (l .letters .types) = omega (arith, a .line .masks) in (alone-touched s q p l b a j o (back j no) ∙ ap (λ (m : Line). touched f m (q .place) j) c, alone-mask s q p l b a j o (back j no) ∙ ap (λ (m : Line). getD (masks (s .features) (l .base) (freshActions f m)) j 0) c))
     in
-    ap (λ (v : List ℕ). record { codes = both .codes; letters = both .letters; base = l .base; actions = v; masks = renewedTwice f both (q .place) (changed p l) (p .place) l .masks }) actions
-    ∙ ap (λ (v : List ℕ). record { codes = both .codes; letters = both .letters; base = l .base; actions = renewedTwice f both (p .place) (changed q l) (q .place) l .actions; masks = v }) masked
-    ∙ ap (λ (m : Line). renewedTwice f m (p .place) (changed q l) (q .place) l) (sym c)
+    same-line (both .codes) (both .letters) (l .base) actions masked ∙ ap (λ (m : Line). renewedTwice f m (p .place) (changed q l) (q .place) l) (sym c)
 
 -- ---- two calls
 -- the line that a call leaves

@@ -159,13 +159,21 @@ struct Mix {
     marks: usize,
 }
 
-/// A held line, and one replacement after the other. Once in eight times a request is one that must be refused.
+/// A held line, and one replacement after the other. Once in eight times a request is one that must be refused. Selectors have any type, or
+/// are transparent, so that runs of them stand behind letters.
 fn sequence(cases: &mut Cases, draw: &mut Draw, length: usize, steps: usize) {
-    lent::lend_any(draw);
+    if draw.once_in(2) {
+        lent::lend_any(draw);
+    } else {
+        lent::lend_transparent();
+    }
     let mongolian = draw.below(5) < 2;
     let mix = Mix { selectors: if mongolian { draw.below(6) } else { draw.below(2) }, marks: draw.below(7) };
     let mut line = lines::any_line(draw, length, |draw| letter(draw, mix), mark);
     line.mongolian = mongolian;
+    if mongolian && draw.once_in(2) {
+        with_selectors(draw, &mut line.letters);
+    }
     hold(&mut line);
     let mut near = 0;
     for _ in 0..steps {
@@ -173,6 +181,17 @@ fn sequence(cases: &mut Cases, draw: &mut Draw, length: usize, steps: usize) {
         near = request.place as usize;
         let request = if draw.once_in(8) { spoilt(draw, request, length) } else { request };
         step(cases, &mut line, request);
+    }
+}
+
+/// Mongolian as it is written: most letters join on both sides and have selectors behind them.
+fn with_selectors(draw: &mut Draw, letters: &mut [Letter]) {
+    for letter in letters {
+        match draw.below(8) {
+            0..=2 => *letter = lent::letter(draw, D),
+            3..=6 => *letter = (draw.one_of(&SELECTORS), lines::any_category(draw)),
+            _ => (),
+        }
     }
 }
 

@@ -2,7 +2,7 @@
 
 #![allow(dead_code)] // a driver uses what it needs of this
 
-use crate::lines::{self, Letter, NO_SELECTORS, RESOLVED, SELECTORS, X};
+use crate::lines::{self, Letter, NO_SELECTORS, RESOLVED, SELECTORS, T, X};
 use crate::frame::Draw;
 use oracle::ot::shaper::arabic_table::LENT;
 use std::sync::atomic::Ordering;
@@ -57,6 +57,13 @@ pub fn letter(draw: &mut Draw, t: u8) -> Letter {
 pub fn lend_any(draw: &mut Draw) {
     for code in SELECTORS[0]..=SELECTORS[3] {
         lend(code, any_type(draw));
+    }
+}
+
+/// From now on these codes are transparent, as they are in the Rust's own table.
+pub fn lend_transparent() {
+    for code in SELECTORS[0]..=SELECTORS[3] {
+        lend(code, T);
     }
 }
 

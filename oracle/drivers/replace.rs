@@ -66,7 +66,7 @@ fn sample(cases: &mut Cases) {
     every_replacement(cases, draw, false, 1);
     every_replacement(cases, draw, true, 1);
     empty(cases, draw);
-    for _ in 0..60 {
+    for _ in 0..72 {
         let (length, steps) = (draw.between(1, 12), draw.between(1, 12));
         sequence(cases, draw, length, steps);
     }
@@ -123,15 +123,14 @@ fn every_replacement(cases: &mut Cases, draw: &mut Draw, mongolian: bool, most: 
     if !mongolian {
         kinds.retain(|&(selector, _)| !selector);
     }
-    let codes = [SELECTORS[0], SELECTORS[1], SELECTORS[2], SELECTORS[3]];
     let mut turn = draw.below(64);
     frame::each_word(&kinds, most, |word| {
         for place in 0..word.len() {
             for &new in &kinds {
                 turn = (turn + 1) % 64;
                 let (pre, post) = (lent::context(draw, turn / 8), lent::context(draw, turn % 8));
-                let letters = word.iter().zip(codes).map(|(&kind, code)| lent::record(draw, kind, code)).collect();
-                let new = lent::record(draw, new, codes[3]);
+                let letters = word.iter().zip(SELECTORS).map(|(&kind, code)| lent::record(draw, kind, code)).collect();
+                let new = lent::record(draw, new, SELECTORS[3]);
                 let mut line = Line::drawn(draw, mongolian, pre, letters, post);
                 hold(&mut line);
                 step(cases, &mut line, Request::of(place, new));
@@ -162,9 +161,8 @@ struct Mix {
 /// A held line, and one replacement after the other. Once in eight times a request is one that must be refused. Selectors have any type, or
 /// are transparent, so that runs of them stand behind letters.
 fn sequence(cases: &mut Cases, draw: &mut Draw, length: usize, steps: usize) {
+    lent::lend_any(draw);
     if draw.once_in(2) {
-        lent::lend_any(draw);
-    } else {
         lent::lend_transparent();
     }
     let mongolian = draw.below(5) < 2;

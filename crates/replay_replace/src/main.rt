@@ -11,7 +11,7 @@ fn wide(x: u32) -> usize {
     x as usize
 }
 
-// Makes the call of a case and compares. Its rooms are its own, as in `replay_join`: lent ones would cost the check more.
+// Makes the call of a case and compares. Its rooms are its own, as in `replay_join`.
 fn replay(body: &[u8]) -> Outcome {
     let mut at: usize = 0;
     let mut features = [0u32; 7];

@@ -60,9 +60,9 @@ pub fn lend_any(draw: &mut Draw) {
     }
 }
 
-/// From now on these codes are transparent, as they are in the Rust's own table.
+/// From now on the selectors are transparent, as they are in Unicode; the code among them that is none keeps its type.
 pub fn lend_transparent() {
-    for code in SELECTORS[0]..=SELECTORS[3] {
+    for code in SELECTORS {
         lend(code, T);
     }
 }

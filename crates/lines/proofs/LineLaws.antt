@@ -2,7 +2,7 @@
 -- its statement allows one answer and one line (`same-left`). And of lines: as many fresh actions as letters; lines that differ in actions and masks alone.
 -- Assumes nothing.
 use mathlib.Core.Path.{_≡_, refl, sym, ap, _∙_}
-use mathlib.Core.Bool.{Bool, true, false, cond, not, _&&_, and-eq-true-iff}
+use mathlib.Core.Bool.{Bool, true, false, cond, _&&_, and-eq-true-iff}
 use mathlib.Core.List.{List, [], _∷_}
 use Prim.Native.Nat.{ℕ, _<_, _≤_}
 use borrow.Author.Tests.{eqb-true, eqb-false, eq-eqb, ne-eqb, not-false}
@@ -22,11 +22,11 @@ use Rattle.selectors.specs.Selectors.{settled}
 use Rattle.selectors.proofs.SelectorLaws.{length-settled}
 use Rattle.joining.specs.Joinable.{Joinable}
 use Rattle.lines.specs.Held.{Letters, Setting, Frame, Line, Left, After, leaves}
-use Rattle.lines.specs.Joined.{typesOf, freshActions, sized, evenLetters, evenLine, lineLimit, contextLimit, limited, knownLetters, uneven, tooLong, strange, refusalRows, refusal}
+use Rattle.lines.specs.Joined.{typesOf, freshActions, sized, evenLetters, evenLine, knownLetters, uneven, tooLong, strange, refusal}
 
 -- two tests that both passed
-passed : (a b : Bool) → (a && b) ≡ true → (a ≡ true) × (b ≡ true)
-passed a b = and-eq-true-iff a b .0
+both : (a b : Bool) → (a && b) ≡ true → (a ≡ true) × (b ≡ true)
+both a b = and-eq-true-iff a b .0
 
 sized-length : (n : ℕ) (column : List ℕ) → sized n column ≡ true → length column ≡ n
 sized-length n column e = sym (eqb-true n (length column) e)
@@ -35,7 +35,7 @@ joinable : (l : Letters) → evenLetters l ≡ true → knownLetters l ≡ true 
 joinable l e k =
     record {
       even = sym (sized-length (length (l .types)) (l .categories) e);
-      small = passed (atMost X (l .types)) (atMost Zs (l .categories)) k .0;
+      small = both (atMost X (l .types)) (atMost Zs (l .categories)) k .0;
     }
 
 -- a line that is not refused
@@ -54,17 +54,17 @@ no-row s l uneven-not strange-not =
     let n = length (l .letters .types) in
     let contexts-even = evenLetters (s .pre) && evenLetters (s .post) in
     let contexts-known = knownLetters (s .pre) && knownLetters (s .post) in
-    let e = passed (evenLine l) contexts-even (not-false _ uneven-not) in
-    let contexts-e = passed (evenLetters (s .pre)) (evenLetters (s .post)) (e .1) in
-    let k = passed (knownLetters (l .letters)) contexts-known (not-false _ strange-not) in
-    let contexts-k = passed (knownLetters (s .pre)) (knownLetters (s .post)) (k .1) in
+    let e = both (evenLine l) contexts-even (not-false _ uneven-not) in
+    let contexts-e = both (evenLetters (s .pre)) (evenLetters (s .post)) (e .1) in
+    let k = both (knownLetters (l .letters)) contexts-known (not-false _ strange-not) in
+    let contexts-k = both (knownLetters (s .pre)) (knownLetters (s .post)) (k .1) in
     let m = sized n (l .masks) in
     let a = sized n (l .actions) && m in
     let b = sized n (l .base) && a in
-    let columns = passed (evenLetters (l .letters)) (sized n (l .codes) && b) (e .0) in
-    let from-codes = passed (sized n (l .codes)) b (columns .1) in
-    let from-base = passed (sized n (l .base)) a (from-codes .1) in
-    let from-actions = passed (sized n (l .actions)) m (from-base .1) in
+    let columns = both (evenLetters (l .letters)) (sized n (l .codes) && b) (e .0) in
+    let from-codes = both (sized n (l .codes)) b (columns .1) in
+    let from-base = both (sized n (l .base)) a (from-codes .1) in
+    let from-actions = both (sized n (l .actions)) m (from-base .1) in
     record {
       line = joinable (l .letters) (columns .0) (k .0);
       pre = joinable (s .pre) (contexts-e .0) (contexts-k .0);

@@ -18,7 +18,7 @@ use Rattle.masks.proofs.MaskLaws.{masks-at}
 use Rattle.lines.specs.Held.{Frame, Line}
 use Rattle.lines.specs.Joined.{typesOf, freshActions, freshLine}
 use Rattle.lines.proofs.LineLaws.{length-fresh, formed, same-line}
-use Rattle.renewing.specs.Renewing.{Renewable}
+use Rattle.renewing.specs.Renewable.{Renewable}
 use Rattle.renewing.specs.Renewed.{reached, touched, renewed, renewedLine}
 use Rattle.renewing.proofs.RenewLaws.{span, length-renewed, renewed-alike, renewed-none, renewed-twice}
 use Rattle.renewing.proofs.FreshLaws.{fresh-run}

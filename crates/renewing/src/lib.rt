@@ -12,7 +12,7 @@ ghost use Rattle.joining.specs.Joinable.{Joinable};
 ghost use Rattle.lines.specs.Held.{frameBy, lineOf};
 ghost use Rattle.lines.specs.Joined.{actionsBetween};
 ghost use Rattle.renewing.specs.Renewed.{reached, touched, renewed, renewedLine};
-ghost use Rattle.renewing.specs.Renewing.{Renewable};
+ghost use Rattle.renewing.specs.Renewable.{Renewable};
 use letters::Action;
 use letters::JoiningType;
 

@@ -4,7 +4,7 @@
 -- that joining afresh gives it (`untouched-action`, `untouched-mask`), and stays touched or not from every other place (`untouched-touched`).
 -- Assumes nothing.
 use mathlib.Core.Path.{_≡_, refl, sym, ap, _∙_}
-use mathlib.Core.Bool.{Bool, true, false, cond, _&&_, _||_, and-eq-true-iff, false≢true}
+use mathlib.Core.Bool.{Bool, true, false, cond, _&&_, and-eq-true-iff, false≢true}
 use mathlib.Core.List.{List}
 use mathlib.Core.Logic.{_⊎_, inl, inr, ⊎-elim, by-cases}
 use Prim.Native.Nat.{ℕ, suc, _+_, _-_, _<_, _≤_}
@@ -15,6 +15,7 @@ use borrow.Author.Tests.{leb-true, le-leb}
 use lib.Dec.{leb}
 use lib.ListN.{length, getD, drop, set, length-set}
 use lib.Seq.{getD-drop, getD-set-other}
+use Rattle.laws.proofs.TestLaws.{either, either-made, same-truth}
 use Rattle.refusals.proofs.ColumnLaws.{atMost-at}
 use Rattle.shapes.specs.Joining.{form, eachBetween}
 use Rattle.shapes.specs.Places.{placeBefore, placeBehind}
@@ -22,7 +23,7 @@ use Rattle.shapes.proofs.JoiningLaws.{form-transparent, each-most, length-each,
 use Rattle.shapes.proofs.PlaceLaws.{Beside, each-set, before-beside, beside-before, behind-beside, beside-behind}
 use Rattle.letters.specs.Types.{resolved}
 use Rattle.letters.specs.Actions.{none}
-use Rattle.selectors.specs.Selectors.{selector, settled, run}
+use Rattle.selectors.specs.Selectors.{selector, run}
 use Rattle.selectors.proofs.RunLaws.{marked, Reaches, Rests, run-all, run-most, rests, settled-rests}
 use Rattle.masks.specs.Masks.{mask, masks}
 use Rattle.masks.proofs.MaskLaws.{masks-at}
@@ -125,25 +126,6 @@ module _ (cs : List ℕ) (k j : ℕ) where
           let most = run-most (drop (suc k) cs) (j - k) (λ i l. rw (getD-drop (suc k) cs i 0) (r .all (suc k + i) (omega arith) (omega arith))) in
           omega (arith, most)
       far false r = ⊎-elim (λ e. omega arith) (λ l. absurd (false≢true (r .all j l (omega arith)))) (eq-or-lt-of-le (r .forward))
-
--- one of three tests
-either : (a b c : Bool) → (a || (b || c)) ≡ true → (a ≡ true) ⊎ ((b ≡ true) ⊎ (c ≡ true))
-either true b c e = inl refl
-either false true c e = inr (inl refl)
-either false false c e = inr (inr e)
-
-either-made : (a b c : Bool) → (a ≡ true) ⊎ ((b ≡ true) ⊎ (c ≡ true)) → (a || (b || c)) ≡ true
-either-made true b c e = refl
-either-made false true c e = refl
-either-made false false c (inl e) = absurd (false≢true e)
-either-made false false c (inr (inl e)) = absurd (false≢true e)
-either-made false false c (inr (inr e)) = e
-
--- two tests that pass together
-same-truth : (a b : Bool) → (a ≡ true → b ≡ true) → (b ≡ true → a ≡ true) → a ≡ b
-same-truth true b on back = sym (on refl)
-same-truth false true on back = back refl
-same-truth false false on back = refl
 
 module _ (f : Frame) (l : Line) (p j : ℕ) (within : p ≤ length (typesOf (l .letters))) (on : j < length (typesOf (l .letters))) where
   pub touched-touches : touched f l p j ≡ true → TouchesIn f l p j

@@ -7,6 +7,7 @@ use letters::JoiningType;
 use replays::Case;
 use tallies::Outcome;
 
+// A place as the call takes it.
 fn wide(x: u32) -> usize {
     x as usize
 }

@@ -1,11 +1,12 @@
-"""Document 01's rules as the models of tools/ have them, written apart from the code: types, the resolving of X, joining by neighbours."""
+"""Document 01's rules as the models of tools/ have them, written apart from the code: types, the resolving of X, joining by neighbours, the
+actions of selectors, masks, and what replacing a letter alters."""
 
 U, L, R, D, ALAPH, DALATH_RISH, T, X = range(8)
 ISOL, FINA, FIN2, FIN3, MEDI, MED2, INIT, NONE, FIXED, REPEATING = range(10)
 NAMES = "isol fina fin2 fin3 medi med2 init none fixed repeating".split()
 CF, LO, ME, MN = 1, 7, 11, 12
 SELECTORS = (0x180B, 0x180C, 0x180D, 0x180F)
-LINE_LIMIT, CONTEXT_LIMIT, LAST_TYPE, LAST_CATEGORY = 4096, 64, 7, 29
+LINE_LIMIT, CONTEXT_LIMIT, LAST_TYPE, LAST_CATEGORY, LAST_ACTION = 4096, 64, 7, 29, 9
 
 
 def resolved(t, category):
@@ -45,3 +46,38 @@ def joined(line, before=U, after=U):
         right.append(after)
         after = after if t == T else t
     return [form(*three) for three in zip(left, line, reversed(right))]
+
+
+def settled(codes, actions):
+    """In Mongolian, after joining: each record but the first that is a selector takes the action of the record before it, in order."""
+    actions = list(actions)
+    for i in range(1, len(actions)):
+        if codes[i] in SELECTORS:
+            actions[i] = actions[i - 1]
+    return actions
+
+
+def masked(features, base, actions):
+    """A mask is its base mask OR the entry of its action: one of seven feature masks, and 0 for none."""
+    entries = [*features, 0]
+    return [mask | entries[action] for mask, action in zip(base, actions)]
+
+
+def renewed(codes, line, place, mongolian):
+    """The records of the new line that a replacement gives what fresh joining gives them: the place; q and n, the nearest non-T records
+    before and after it, where they exist; in Mongolian the run of selectors directly behind each."""
+    q = [i for i in range(place) if line[i] != T][-1:]
+    n = [i for i in range(place + 1, len(line)) if line[i] != T][:1]
+    records = {place, *q, *n}
+    if mongolian:
+        for at in (place, *q, *n):
+            for behind in range(at + 1, len(codes)):
+                if codes[behind] not in SELECTORS:
+                    break
+                records.add(behind)
+    return records
+
+
+def replaced(held, fresh, records):
+    """A column after a replacement: at these records what fresh joining of the new line gives, "nothing else changes"."""
+    return [new if i in records else old for i, (old, new) in enumerate(zip(held, fresh))]

@@ -9,12 +9,12 @@ use Rattle.refusals.proofs.VerdictLaws.{same-said}
 use Rattle.lines.specs.Held.{Setting, Line}
 use Rattle.lines.specs.Joined.{refusal, frameOf, joinedLine}
 use Rattle.lines.proofs.LineLaws.{same-left, left-number, left-stays, left-smallest, left-accepted}
-use Rattle.replacing.specs.Replaced.{Request, replacedLine, replaceRows, replaceRefusal, replaceAfter}
+use Rattle.replacing.specs.Replaced.{Request, replacedLine, replaceRows, replaceRefusal, replaceAfter, Replacing}
 use Rattle.renewing.proofs.RenewLaws.{length-renewed}
 use Rattle.replacing.proofs.AllowedLaws.{Allowed, allowed, left-replaced}
 use Rattle.replacing.proofs.CurrentLaws.{replaced-else, replaced-fresh, replaced-current}
 use Rattle.replacing.proofs.OrderLaws.{refusal-behind, left-order}
-use Rattle.demands.specs.Replacing.{Replacing, OneAnswer, RefusedStays, SmallestNumber, Current, FreshCurrent, StaysCurrent, AfterAll, AlwaysCurrent, AltersNear, GetsFresh, ChangesLetter, EitherOrder}
+use Rattle.demands.specs.Replacing.{OneAnswer, RefusedStays, SmallestNumber, Current, FreshCurrent, StaysCurrent, AfterAll, AlwaysCurrent, AltersNear, GetsFresh, ChangesLetter, EitherOrder}
 use Rattle.demands.proofs.NamedLaws.{named-touches, touches-named}
 
 pub one-answer : OneAnswer

@@ -1,5 +1,5 @@
 -- What joining promises: `UnicodeLetter`, `UnicodeLine` that it is Unicode's rule where no letter has rules of its own; `Local` what an action
--- depends on. And what `lines::join_line` does with every line: `Joining` its statement; `OneAnswer`, `RefusedStays`,
+-- depends on. And what `lines::join_line` does with every line, by its statement (`Joining` of lines): `OneAnswer`, `RefusedStays`,
 -- `SmallestNumber`, `AcceptedJoins`.
 -- Assumes nothing.
 use mathlib.Core.Path.{_≡_}
@@ -13,8 +13,8 @@ use Rattle.refusals.specs.Numbers.{said}
 use Rattle.letters.specs.Types.{U}
 use Rattle.shapes.specs.Joining.{form, latest, nearest, eachBetween, actionsOf}
 use Rattle.shapes.specs.Unicode.{unicodeForm, common, allCommon}
-use Rattle.lines.specs.Held.{Setting, Line, After}
-use Rattle.lines.specs.Joined.{joinRows, joinedLine, joinAfter}
+use Rattle.lines.specs.Held.{Setting, Line}
+use Rattle.lines.specs.Joined.{joinRows, joinedLine, Joining}
 
 -- Where no Alaph, Dalath or Rish is among a letter t and its neighbours p and n, its action is that of Unicode's rule.
 abbrev pub UnicodeLetter : Type 0
@@ -32,10 +32,6 @@ abbrev pub Local : Type 0
 Local =
     (b c : ℕ) (before before′ : List ℕ) (t : ℕ) (behind behind′ : List ℕ) (a d : ℕ) → latest b before ≡ latest c before′ → nearest behind a ≡ nearest behind′ d
     → getD (eachBetween form b (before ++ (t ∷ behind)) a) (length before) 0 ≡ getD (eachBetween form c (before′ ++ (t ∷ behind′)) d) (length before′) 0
-
--- the call of `join_line` in the setting s on the line l may answer r and leave the line m
-abbrev pub Joining : Setting → Line → Verdict → Line → Type 0
-Joining s l r m = After (said r) m ≡ joinAfter s l
 
 -- Any two answers that the statement allows are equal, and so are the lines that they leave.
 abbrev pub OneAnswer : Type 0

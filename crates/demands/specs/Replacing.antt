@@ -1,4 +1,4 @@
--- What replacing a letter promises, of every line: `Replacing` its statement; `OneAnswer`, `RefusedStays`, `SmallestNumber`. Demand 3: `Current` that every record
+-- What replacing a letter promises, of every line, by the call's statement (`Replacing` of crate replacing): `OneAnswer`, `RefusedStays`, `SmallestNumber`. Demand 3: `Current` that every record
 -- is as joining afresh gives; `FreshCurrent`, `StaysCurrent`, `AlwaysCurrent` that a line stays so; `Named` the records that a new letter can alter,
 -- in plain words; `AltersNear`, `GetsFresh`, `ChangesLetter` what a replacement alters and what not; `EitherOrder` that two may change places.
 -- Assumes nothing.
@@ -12,30 +12,25 @@ use Rattle.refusals.specs.declared.Verdict.{Verdict}
 use Rattle.refusals.specs.Numbers.{said}
 use Rattle.letters.specs.Types.{T}
 use Rattle.selectors.specs.Selectors.{selector}
-use Rattle.lines.specs.Held.{Setting, Line, After}
-use Rattle.lines.specs.Joined.{typesOf, joinedLine}
-use Rattle.replacing.specs.Replaced.{Request, replaceRows, replaceAfter}
-use Rattle.demands.specs.Joining.{Joining}
-
--- the call that replaces a letter, in the setting s with the request q on the line l, may answer r and leave the line m
-abbrev pub Replacing : Setting → Request → Line → Verdict → Line → Type 0
-Replacing s q l r m = After (said r) m ≡ replaceAfter s q l
+use Rattle.lines.specs.Held.{Setting, Line}
+use Rattle.lines.specs.Joined.{typesOf, joinedLine, Joining}
+use Rattle.replacing.specs.Replaced.{Request, replaceRows, Replacing}
 
 -- Any two answers that the statement allows are equal, and so are the lines that they leave.
 abbrev pub OneAnswer : Type 0
 OneAnswer =
-    (s : Setting) (q : Request) (l : Line) (r u : Verdict) (m n : Line) → Replacing s q l r m → Replacing s q l u n → (r ≡ u) × (m ≡ n)
+    (s : Setting) (a : Request) (l : Line) (r u : Verdict) (m n : Line) → Replacing s a l r m → Replacing s a l u n → (r ≡ u) × (m ≡ n)
 
 -- A request that is refused alters nothing.
 abbrev pub RefusedStays : Type 0
-RefusedStays = (s : Setting) (q : Request) (l : Line) (r : Verdict) (m : Line) → Replacing s q l r m → (said r ≡ 0 → ⊥) → m ≡ l
+RefusedStays = (s : Setting) (a : Request) (l : Line) (r : Verdict) (m : Line) → Replacing s a l r m → (said r ≡ 0 → ⊥) → m ≡ l
 
 -- Where several refusals apply, the smallest number is given: a number that is given is that of a row of the table that applies; and where a row
 -- applies, a number is given, and no larger one. So a request is accepted exactly when no row applies.
 abbrev pub SmallestNumber : Type 0
 SmallestNumber =
-    (s : Setting) (q : Request) (l : Line) (r : Verdict) (m : Line) → Replacing s q l r m
-    → ((said r ≡ 0 → ⊥) → Has (replaceRows s q l) (said r) true) × ((n : ℕ) → Has (replaceRows s q l) n true → (0 < said r) × (said r ≤ n))
+    (s : Setting) (a : Request) (l : Line) (r : Verdict) (m : Line) → Replacing s a l r m
+    → ((said r ≡ 0 → ⊥) → Has (replaceRows s a l) (said r) true) × ((n : ℕ) → Has (replaceRows s a l) n true → (0 < said r) × (said r ≤ n))
 
 -- ---- demand 3: no old forms
 -- every record has the action and the mask that joining the line's present letters afresh gives
@@ -48,17 +43,18 @@ FreshCurrent = (s : Setting) (l : Line) (r : Verdict) (m : Line) → Joining s l
 
 -- A line that is current is so after any request, accepted or refused.
 abbrev pub StaysCurrent : Type 0
-StaysCurrent = (s : Setting) (q : Request) (l : Line) (r : Verdict) (m : Line) → Current s l → Replacing s q l r m → Current s m
+StaysCurrent = (s : Setting) (a : Request) (l : Line) (r : Verdict) (m : Line) → Current s l → Replacing s a l r m → Current s m
 
 -- requests one after the other, each with an answer that its statement allows, make the line m of the line l
 abbrev pub AfterAll : Setting → List Request → Line → Line → Type 0
 AfterAll s [] l m = l ≡ m
-AfterAll s (q ∷ qs) l m = (r : Verdict) × (k : Line) × Replacing s q l r k × AfterAll s qs k m
+AfterAll s (a ∷ all) l m = (r : Verdict) × (k : Line) × Replacing s a l r k × AfterAll s all k m
 
--- So a line that was joined once is current after any number of requests, some of them refused.
+-- So a line that was joined once is current after any number of requests, some of them refused, in the setting that it was joined in: where contexts, feature
+-- masks or script change, it has to be joined again.
 abbrev pub AlwaysCurrent : Type 0
 AlwaysCurrent =
-    (s : Setting) (l : Line) (r : Verdict) (k : Line) (qs : List Request) (m : Line) → Joining s l r k → said r ≡ 0 → AfterAll s qs k m → Current s m
+    (s : Setting) (l : Line) (r : Verdict) (k : Line) (all : List Request) (m : Line) → Joining s l r k → said r ≡ 0 → AfterAll s all k m → Current s m
 
 -- ---- the records that a new letter can alter
 -- k is the nearest letter before place p that is not transparent: all between the two are
@@ -98,33 +94,33 @@ NamedIn s l = Named (s .mongolian) (l .codes) (typesOf (l .letters))
 -- A replacement alters the action and the mask of no other record, by the letters and codes that the line has then.
 abbrev pub AltersNear : Type 0
 AltersNear =
-    (s : Setting) (q : Request) (l : Line) (r : Verdict) (m : Line) → Replacing s q l r m → said r ≡ 0
-    → (j : ℕ) → (NamedIn s m (q .place) j → ⊥) → (getD (m .actions) j 0 ≡ getD (l .actions) j 0) × (getD (m .masks) j 0 ≡ getD (l .masks) j 0)
+    (s : Setting) (a : Request) (l : Line) (r : Verdict) (m : Line) → Replacing s a l r m → said r ≡ 0
+    → (j : ℕ) → (NamedIn s m (a .place) j → ⊥) → (getD (m .actions) j 0 ≡ getD (l .actions) j 0) × (getD (m .masks) j 0 ≡ getD (l .masks) j 0)
 
 -- Those records get the action and the mask that joining the line's new letters afresh gives, whatever they had.
 abbrev pub GetsFresh : Type 0
 GetsFresh =
-    (s : Setting) (q : Request) (l : Line) (r : Verdict) (m : Line) → Replacing s q l r m → said r ≡ 0
-    → (j : ℕ) → NamedIn s m (q .place) j
+    (s : Setting) (a : Request) (l : Line) (r : Verdict) (m : Line) → Replacing s a l r m → said r ≡ 0
+    → (j : ℕ) → NamedIn s m (a .place) j
     → (getD (m .actions) j 0 ≡ getD (joinedLine s m .actions) j 0) × (getD (m .masks) j 0 ≡ getD (joinedLine s m .masks) j 0)
 
 -- what a replacement does to the other columns
-pub record NewLetter (q : Request) (l m : Line) : Type 0 where
-  pub codes : m .codes ≡ set (l .codes) (q .place) (q .code)
-  pub types : m .letters .types ≡ set (l .letters .types) (q .place) (q .type)
-  pub categories : m .letters .categories ≡ set (l .letters .categories) (q .place) (q .category)
+pub record NewLetter (a : Request) (l m : Line) : Type 0 where
+  pub codes : m .codes ≡ set (l .codes) (a .place) (a .code)
+  pub types : m .letters .types ≡ set (l .letters .types) (a .place) (a .type)
+  pub categories : m .letters .categories ≡ set (l .letters .categories) (a .place) (a .category)
   pub base : m .base ≡ l .base
   pub actions : length (m .actions) ≡ length (l .actions)
   pub masks : length (m .masks) ≡ length (l .masks)
 
 -- Code, type and category change at the place alone; base masks never do; no column grows or shrinks.
 abbrev pub ChangesLetter : Type 0
-ChangesLetter = (s : Setting) (q : Request) (l : Line) (r : Verdict) (m : Line) → Replacing s q l r m → said r ≡ 0 → NewLetter q l m
+ChangesLetter = (s : Setting) (a : Request) (l : Line) (r : Verdict) (m : Line) → Replacing s a l r m → said r ≡ 0 → NewLetter a l m
 
 -- Two requests for different places leave the same line in either order, and each is answered alike, accepted or refused. The line need not be current.
 abbrev pub EitherOrder : Type 0
 EitherOrder =
-    (s : Setting) (p q : Request) (l : Line) → (p .place ≡ q .place → ⊥)
-    → (r u : Verdict) (k m : Line) → Replacing s p l r k → Replacing s q k u m
-    → (u′ r′ : Verdict) (k′ m′ : Line) → Replacing s q l u′ k′ → Replacing s p k′ r′ m′
+    (s : Setting) (a b : Request) (l : Line) → (a .place ≡ b .place → ⊥)
+    → (r u : Verdict) (k m : Line) → Replacing s a l r k → Replacing s b k u m
+    → (u′ r′ : Verdict) (k′ m′ : Line) → Replacing s b l u′ k′ → Replacing s a k′ r′ m′
     → (m ≡ m′) × (r ≡ r′) × (u ≡ u′)

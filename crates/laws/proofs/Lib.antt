@@ -4,3 +4,4 @@ pub mod LoopLaws
 pub mod RestLaws
 pub mod TableLaws
 pub mod RowLaws
+pub mod TestLaws

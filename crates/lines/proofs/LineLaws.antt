@@ -1,8 +1,8 @@
 -- What is known of a line that is not refused (`accepted`, `no-row`); then of every call on a line: what it leaves where it is refused and where it is not, and that
--- its statement allows one answer and one line (`same-left`).
+-- its statement allows one answer and one line (`same-left`). And of lines: as many fresh actions as letters; lines that differ in actions and masks alone.
 -- Assumes nothing.
 use mathlib.Core.Path.{_≡_, refl, sym, ap, _∙_}
-use mathlib.Core.Bool.{Bool, true, false, cond, not, _&&_, and-eq-true-iff}
+use mathlib.Core.Bool.{Bool, true, false, cond, _&&_, and-eq-true-iff}
 use mathlib.Core.List.{List, [], _∷_}
 use Prim.Native.Nat.{ℕ, _<_, _≤_}
 use borrow.Author.Tests.{eqb-true, eqb-false, eq-eqb, ne-eqb, not-false}
@@ -16,13 +16,17 @@ use Rattle.refusals.proofs.VerdictLaws.{same-said}
 use Rattle.refusals.specs.Columns.{atMost}
 use Rattle.letters.specs.Types.{X}
 use Rattle.letters.specs.Categories.{Zs}
+use Rattle.shapes.specs.Joining.{form, eachBetween}
+use Rattle.shapes.proofs.JoiningLaws.{length-each}
+use Rattle.selectors.specs.Selectors.{settled}
+use Rattle.selectors.proofs.SelectorLaws.{length-settled}
 use Rattle.joining.specs.Joinable.{Joinable}
-use Rattle.lines.specs.Held.{Letters, Setting, Line, Left, After, leaves}
-use Rattle.lines.specs.Joined.{sized, evenLetters, evenLine, lineLimit, contextLimit, limited, knownLetters, uneven, tooLong, strange, refusalRows, refusal}
+use Rattle.lines.specs.Held.{Letters, Setting, Frame, Line, Left, After, leaves}
+use Rattle.lines.specs.Joined.{typesOf, freshActions, sized, evenLetters, evenLine, knownLetters, uneven, tooLong, strange, refusal}
 
 -- two tests that both passed
-passed : (a b : Bool) → (a && b) ≡ true → (a ≡ true) × (b ≡ true)
-passed a b = and-eq-true-iff a b .0
+both : (a b : Bool) → (a && b) ≡ true → (a ≡ true) × (b ≡ true)
+both a b = and-eq-true-iff a b .0
 
 sized-length : (n : ℕ) (column : List ℕ) → sized n column ≡ true → length column ≡ n
 sized-length n column e = sym (eqb-true n (length column) e)
@@ -31,7 +35,7 @@ joinable : (l : Letters) → evenLetters l ≡ true → knownLetters l ≡ true 
 joinable l e k =
     record {
       even = sym (sized-length (length (l .types)) (l .categories) e);
-      small = passed (atMost X (l .types)) (atMost Zs (l .categories)) k .0;
+      small = both (atMost X (l .types)) (atMost Zs (l .categories)) k .0;
     }
 
 -- a line that is not refused
@@ -50,17 +54,17 @@ no-row s l uneven-not strange-not =
     let n = length (l .letters .types) in
     let contexts-even = evenLetters (s .pre) && evenLetters (s .post) in
     let contexts-known = knownLetters (s .pre) && knownLetters (s .post) in
-    let e = passed (evenLine l) contexts-even (not-false _ uneven-not) in
-    let contexts-e = passed (evenLetters (s .pre)) (evenLetters (s .post)) (e .1) in
-    let k = passed (knownLetters (l .letters)) contexts-known (not-false _ strange-not) in
-    let contexts-k = passed (knownLetters (s .pre)) (knownLetters (s .post)) (k .1) in
+    let e = both (evenLine l) contexts-even (not-false _ uneven-not) in
+    let contexts-e = both (evenLetters (s .pre)) (evenLetters (s .post)) (e .1) in
+    let k = both (knownLetters (l .letters)) contexts-known (not-false _ strange-not) in
+    let contexts-k = both (knownLetters (s .pre)) (knownLetters (s .post)) (k .1) in
     let m = sized n (l .masks) in
     let a = sized n (l .actions) && m in
     let b = sized n (l .base) && a in
-    let columns = passed (evenLetters (l .letters)) (sized n (l .codes) && b) (e .0) in
-    let from-codes = passed (sized n (l .codes)) b (columns .1) in
-    let from-base = passed (sized n (l .base)) a (from-codes .1) in
-    let from-actions = passed (sized n (l .actions)) m (from-base .1) in
+    let columns = both (evenLetters (l .letters)) (sized n (l .codes) && b) (e .0) in
+    let from-codes = both (sized n (l .codes)) b (columns .1) in
+    let from-base = both (sized n (l .base)) a (from-codes .1) in
+    let from-actions = both (sized n (l .actions)) m (from-base .1) in
     record {
       line = joinable (l .letters) (columns .0) (k .0);
       pre = joinable (s .pre) (contexts-e .0) (contexts-k .0);
@@ -124,3 +128,22 @@ pub left-smallest :
 left-smallest rows up old new n m e =
     let same : n ≡ first rows = left-number (first rows) old new n m e in
     (λ d. rw same (first-applies rows (λ z. d (same ∙ z))), λ k h. rw same (first-given 0 up h, first-smallest 0 up h))
+
+-- ---- fresh actions
+pub length-fresh : (f : Frame) (l : Line) → length (freshActions f l) ≡ length (typesOf (l .letters))
+length-fresh f l = go (f .mongolian)
+  where
+    joined : List ℕ
+    joined = eachBetween form (f .before) (typesOf (l .letters)) (f .behind)
+
+    go : (mongolian : Bool) → length (cond mongolian (settled (l .codes) joined) joined) ≡ length (typesOf (l .letters))
+    go true = length-settled (l .codes) joined ∙ length-each form (f .before) (typesOf (l .letters)) (f .behind)
+    go false = length-each form (f .before) (typesOf (l .letters)) (f .behind)
+
+-- lines that differ in actions and masks alone
+abbrev pub formed : List ℕ → Letters → List ℕ → List ℕ → List ℕ → Line
+formed codes letters base actions masks = record { codes = codes; letters = letters; base = base; actions = actions; masks = masks }
+
+pub same-line :
+    (codes : List ℕ) (letters : Letters) (base : List ℕ) {a b m n : List ℕ} → a ≡ b → m ≡ n → formed codes letters base a m ≡ formed codes letters base b n
+same-line codes letters base e d = λ i. formed codes letters base (e i) (d i)

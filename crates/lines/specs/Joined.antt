@@ -1,20 +1,23 @@
 -- Joining a line (document 01, "Joining"): `typesOf`, `frameOf`, `actionsBetween`, `freshActions`, `freshLine`, `joinedLine` what joining gives; `sized`, `evenLetters`, `evenLine`,
 -- `limited`, `knownLetters` what is asked of a line and its contexts; `lineLimit`, `contextLimit` how long they may be; `uneven`, `tooLong`, `strange`, `refusalRows`,
--- `joinRows`, `refusal` when joining is refused, and with which number; `joinAfter` what the call answers and leaves, of every input.
+-- `joinRows`, `refusal` when joining is refused, and with which number; `joinAfter`, `Joining` what the call answers and leaves, of every input.
 -- Assumes nothing.
+use mathlib.Core.Path.{_≡_}
 use mathlib.Core.Bool.{Bool, cond, not, _&&_}
 use mathlib.Core.List.{List, [], _∷_}
 use Prim.Native.Nat.{ℕ}
 use lib.Dec.{eqb, leb}
 use lib.ListN.{length}
 use Rattle.laws.specs.Rows.{Row, Given, first}
+use Rattle.refusals.specs.declared.Verdict.{Verdict}
+use Rattle.refusals.specs.Numbers.{said}
 use Rattle.refusals.specs.Columns.{atMost}
 use Rattle.letters.specs.Types.{U, X}
 use Rattle.letters.specs.Categories.{Zs}
 use Rattle.shapes.specs.Joining.{form, nearest, eachBetween, lineTypes}
 use Rattle.selectors.specs.Selectors.{settled}
 use Rattle.masks.specs.Masks.{masks}
-use Rattle.lines.specs.Held.{Letters, Setting, Frame, Line, Left, leaves, frameBy}
+use Rattle.lines.specs.Held.{Letters, Setting, Frame, Line, Left, After, leaves, frameBy}
 
 -- the types that letters have in the end
 abbrev pub typesOf : Letters → List ℕ
@@ -104,3 +107,7 @@ refusal s l = first (joinRows s l)
 -- the call: a refusal gives its number and leaves the line as it was
 abbrev pub joinAfter : Setting → Line → Left
 joinAfter s l = leaves (refusal s l) l (joinedLine s l)
+
+-- the statement of `join_line`: in the setting s, on the line l, it may answer r and leave the line m
+abbrev pub Joining : Setting → Line → Verdict → Line → Type 0
+Joining s l r m = After (said r) m ≡ joinAfter s l

@@ -5,8 +5,8 @@ ghost use lib.ListN.{length};
 ghost use Rattle.laws.specs.Rows.{first};
 ghost use Rattle.refusals.specs.Numbers.{said};
 ghost use Rattle.selectors.specs.Selectors.{settled};
-ghost use Rattle.lines.specs.Held.{lettersOf, settingOf, lineOf, After};
-ghost use Rattle.lines.specs.Joined.{evenLine, knownLetters, refusalRows, refusal, joinedLine, joinAfter};
+ghost use Rattle.lines.specs.Held.{lettersOf, settingOf, lineOf};
+ghost use Rattle.lines.specs.Joined.{evenLine, knownLetters, refusalRows, refusal, joinedLine, Joining};
 use letters::Category;
 use letters::JoiningType;
 use refusals::Refusal;
@@ -120,7 +120,7 @@ pub fn join_line(
     actions: &mut [u8],
     masks: &mut [u32],
 ) -> Verdict
-    ensures { λ r. ⌜ After (said r) (lineOf (now (codes .entry)) (now (types .entry)) (now (cats .entry)) (now (base .entry)) (now (actions .exit)) (now (masks .exit))) ≡ joinAfter (settingOf (now («pre_types» .entry)) (now («pre_cats» .entry)) (now («post_types» .entry)) (now («post_cats» .entry)) features mongolian) (lineOf (now (codes .entry)) (now (types .entry)) (now (cats .entry)) (now (base .entry)) (now (actions .entry)) (now (masks .entry))) ⌝ }
+    ensures { λ r. ⌜ Joining (settingOf (now («pre_types» .entry)) (now («pre_cats» .entry)) (now («post_types» .entry)) (now («post_cats» .entry)) features mongolian) (lineOf (now (codes .entry)) (now (types .entry)) (now (cats .entry)) (now (base .entry)) (now (actions .entry)) (now (masks .entry))) r (lineOf (now (codes .entry)) (now (types .entry)) (now (cats .entry)) (now (base .entry)) (now (actions .exit)) (now (masks .exit))) ⌝ }
 {
     let line_even = even_line(codes, types, cats, base, actions, masks);
     let verdict = refused(

@@ -1,22 +1,21 @@
 -- Laws of the letters beside a place, over any list of types: a letter further on each side (`nearest-here`, `latest-here`, `placeBefore-here`,
--- `placeOf-here`); how far the places reach; and that nothing but transparent letters stands between a place and the letter beside it, so that
+-- `placeOf-here`); and that nothing but transparent letters stands between a place and the letter beside it, so that
 -- seen from that letter the next one is the same (`letter-across`, `letter-back`).
 -- Assumes nothing.
 use mathlib.Core.Path.{_≡_, refl, sym, ap, _∙_}
 use mathlib.Core.Bool.{Bool, true, false, cond}
 use mathlib.Core.List.{List, [], _∷_}
-use mathlib.Core.Logic.{_⊎_, inl, inr, ⊎-elim}
-use Prim.Native.Nat.{ℕ, zero, suc, _+_, _<_, _≤_}
+use Prim.Native.Nat.{ℕ, zero, suc, _+_, _<_}
 use native.Mathlib.Nat.{add-zero, zero-add, suc-add}
 use native.Mathlib.Numerals.{add-one}
 use native.Mathlib.Omega.{arith}
 use lib.Dec.{eqb}
-use lib.ListN.{length, getD, take, drop, length-drop}
+use lib.ListN.{length, getD, take, drop}
 use lib.Seq.{take-suc}
 use Rattle.laws.proofs.LoopLaws.{drop-next}
 use Rattle.letters.specs.Types.{T}
 use Rattle.shapes.specs.Joining.{passed, latest, nearest}
-use Rattle.shapes.specs.Places.{placeBefore, placeOf, placeBehind}
+use Rattle.shapes.specs.Places.{placeBefore, placeOf}
 use Rattle.shapes.proofs.LocalityLaws.{latest-append}
 use Rattle.neighbours.specs.declared.Neighbour.{Neighbour}
 use Rattle.neighbours.specs.Beside.{StandsBefore, StandsFrom}
@@ -39,41 +38,6 @@ module _ (ts : List ℕ) (p : ℕ) where
         go : (s : Bool) → p + cond s (suc (placeOf (drop (p + 1) ts))) 0 ≡ cond s (p + 1 + placeOf (drop (p + 1) ts)) p
         go true = omega arith
         go false = add-zero p
-
--- ---- how far
--- the letter before a place stands before it, or is none
-pub placeBefore-reaches : (ts : List ℕ) (p : ℕ) → (placeBefore ts p < p) ⊎ (placeBefore ts p ≡ length ts)
-placeBefore-reaches ts zero = inr refl
-placeBefore-reaches ts (suc k) = go (eqb (getD ts k 0) T) (placeBefore-reaches ts k)
-  where
-    go :
-        (s : Bool) → (placeBefore ts k < k) ⊎ (placeBefore ts k ≡ length ts)
-        → (cond s (placeBefore ts k) k < suc k) ⊎ (cond s (placeBefore ts k) k ≡ length ts)
-    go true ih = ⊎-elim (λ l. inl (omega arith)) (λ e. inr e) ih
-    go false ih = inl (omega arith)
-
--- so one that is there stands before it
-pub placeBefore-below : (ts : List ℕ) (p : ℕ) → placeBefore ts p < length ts → placeBefore ts p < p
-placeBefore-below ts p h = ⊎-elim (λ l. l) (λ e. absurd (omega arith)) (placeBefore-reaches ts p)
-
-pub placeBefore-most : (ts : List ℕ) (p : ℕ) → p ≤ length ts → placeBefore ts p ≤ length ts
-placeBefore-most ts p h = ⊎-elim (λ l. omega arith) (λ e. omega arith) (placeBefore-reaches ts p)
-
-pub placeOf-most : (ts : List ℕ) → placeOf ts ≤ length ts
-placeOf-most [] = omega arith
-placeOf-most (t ∷ ts) = go (eqb t T) (placeOf-most ts)
-  where
-    go : (s : Bool) → placeOf ts ≤ length ts → cond s (suc (placeOf ts)) 0 ≤ suc (length ts)
-    go true ih = omega arith
-    go false ih = omega arith
-
--- the letter from a place on stands in the line, or at its length
-pub placeFrom-most : (ts : List ℕ) (p : ℕ) → p ≤ length ts → p + placeOf (drop p ts) ≤ length ts
-placeFrom-most ts p h = omega (arith, placeOf-most (drop p ts), length-drop p ts)
-
--- the place that `letter_from` gives from p + 1 on, and the definition's
-pub placeBehind-from : (ts : List ℕ) (p : ℕ) → p + 1 + placeOf (drop (p + 1) ts) ≡ placeBehind ts p
-placeBehind-from ts p = rw (add-one p)
 
 -- ---- what stands between
 nearest-skips : (ts : List ℕ) (k a : ℕ) → eqb (getD ts k 0) T ≡ true → nearest (drop k ts) a ≡ nearest (drop (suc k) ts) a

@@ -1,15 +1,14 @@
--- What fresh joining gives a record: that of its home, by the letters beside it (`fresh-form`); a run of selectors has what the record before it has (`fresh-run`); and so
--- the records that one reaches are renewed with one action (`renewed-run`).
+-- What fresh joining gives a record: that of its home, by the letters beside it (`fresh-form`); the records that it reaches have what it has (`fresh-run`).
 -- Assumes nothing.
-use mathlib.Core.Path.{_≡_, refl, sym, ap, _∙_}
-use mathlib.Core.Bool.{Bool, true, false, cond, _&&_, and-eq-true-iff}
+use mathlib.Core.Path.{_≡_, refl, sym, _∙_}
+use mathlib.Core.Bool.{Bool, true, false, cond, and-eq-true-iff}
 use mathlib.Core.List.{List}
 use Prim.Native.Nat.{ℕ, zero, suc, _+_, _-_, _<_, _≤_}
 use native.Mathlib.Nat.{add-zero}
 use native.Mathlib.Numerals.{add-one}
 use native.Mathlib.Omega.{arith}
 use borrow.Author.Tests.{leb-true}
-use lib.Dec.{leb, ltb}
+use lib.Dec.{leb}
 use lib.ListN.{length, getD, take, drop}
 use lib.Seq.{getD-drop}
 use Rattle.letters.specs.Types.{resolved}

@@ -10,16 +10,15 @@ use native.Mathlib.Omega.{arith}
 use borrow.Author.Tests.{leb-true, leb-false, lt-ltb, le-ltb, lt-leb}
 use lib.Dec.{leb, ltb}
 use lib.ListN.{length, getD, drop}
-use Rattle.shapes.specs.Joining.{form, eachBetween}
-use Rattle.shapes.proofs.JoiningLaws.{length-each, length-lineTypes}
+use Rattle.shapes.proofs.JoiningLaws.{length-lineTypes}
 use Rattle.shapes.specs.Places.{placeBefore, placeOf, placeBehind}
-use Rattle.selectors.specs.Selectors.{settled, run}
-use Rattle.selectors.proofs.SelectorLaws.{length-settled}
+use Rattle.selectors.specs.Selectors.{run}
 use Rattle.masks.specs.Masks.{mask, masks}
 use Rattle.masks.proofs.MaskLaws.{masks-at}
 use Rattle.lines.specs.Held.{Frame, Line}
-use Rattle.lines.specs.Joined.{typesOf, freshActions, freshLine, actionsBetween}
-use Rattle.renewing.specs.Renewing.{Renewable}
+use Rattle.lines.specs.Joined.{typesOf, freshActions, freshLine}
+use Rattle.lines.proofs.LineLaws.{length-fresh, formed, same-line}
+use Rattle.renewing.specs.Renewable.{Renewable}
 use Rattle.renewing.specs.Renewed.{reached, touched, renewed, renewedLine}
 use Rattle.renewing.proofs.RenewLaws.{span, length-renewed, renewed-alike, renewed-none, renewed-twice}
 use Rattle.renewing.proofs.FreshLaws.{fresh-run}
@@ -35,24 +34,20 @@ span-reached m cs k end j e =
     go n f true q = lt-ltb j end (omega (arith, leb-true j (k + n) q))
     go n f false q = le-ltb j end (omega (arith, leb-false j (k + n) q))
 
-length-between : (m : Bool) (cs : List ℕ) (b : ℕ) (ts : List ℕ) (a : ℕ) → length (actionsBetween m cs b ts a) ≡ length ts
-length-between true cs b ts a = length-settled cs (eachBetween form b ts a) ∙ length-each form b ts a
-length-between false cs b ts a = length-each form b ts a
-
 module _ {f : Frame} {l : Line} (held : Renewable f l) where
-  pub length-fresh : length (freshActions f l) ≡ length (l .letters .types)
-  length-fresh = length-between (f .mongolian) (l .codes) (f .before) (typesOf (l .letters)) (f .behind) ∙ length-lineTypes (l .letters .types) (l .letters .categories) (held .letters .even)
+  size : length (freshActions f l) ≡ length (l .letters .types)
+  size = length-fresh f l ∙ length-lineTypes (l .letters .types) (l .letters .categories) (held .letters .even)
 
   pub fresh-mask :
       (j : ℕ) → j < length (l .letters .types) → getD (freshLine f l .masks) j 0 ≡ mask (f .features) (getD (l .base) j 0) (getD (freshActions f l) j 0)
-  fresh-mask j h = masks-at (f .features) (l .base) (freshActions f l) j (omega (arith, held .base)) (omega (arith, length-fresh))
+  fresh-mask j h = masks-at (f .features) (l .base) (freshActions f l) j (omega (arith, held .base)) (omega (arith, size))
 
   module _ (k : ℕ) where
     pub line-renewed :
         (action end : ℕ) (actions′ masks′ : List ℕ) → action ≡ getD (freshActions f l) k 0
         → end ≡ k + 1 + cond (f .mongolian) (run (drop (k + 1) (l .codes))) 0 → actions′ ≡ renewed (span k end) (λ j. action) (l .actions)
         → masks′ ≡ renewed (span k end) (λ j. mask (f .features) (getD (l .base) j 0) action) (l .masks)
-        → record { codes = l .codes; letters = l .letters; base = l .base; actions = actions′; masks = masks′ } ≡ renewedLine f (reached (f .mongolian) (l .codes) k) l
+        → formed (l .codes) (l .letters) (l .base) actions′ masks′ ≡ renewedLine f (reached (f .mongolian) (l .codes) k) l
     line-renewed action end actions′ masks′ ea ee e d =
         let ts = typesOf (l .letters) in
         let at = reached (f .mongolian) (l .codes) k in
@@ -62,7 +57,7 @@ module _ {f : Frame} {l : Line} (held : Renewable f l) where
         let acted : actions′ ≡ renewed at (λ j. getD (freshActions f l) j 0) (l .actions) = e ∙ renewed-alike (span k end) at _ _ (l .actions) (λ j h. same j) (λ j h. runs j (omega (arith, held .actions))) in
         let masked : masks′ ≡ renewed at (λ j. getD (freshLine f l .masks) j 0) (l .masks) = d ∙ renewed-alike (span k end) at _ _ (l .masks) (λ j h. same j)
         (λ j h q. ap (mask (f .features) (getD (l .base) j 0)) (runs j (omega (arith, held .masks)) q) ∙ sym (fresh-mask j (omega (arith, held .masks)))) in
-        λ i. record { codes = l .codes; letters = l .letters; base = l .base; actions = acted i; masks = masked i }
+        same-line (l .codes) (l .letters) (l .base) acted masked
 
     pub line-stays : length (l .letters .types) ≤ k → l ≡ renewedLine f (reached (f .mongolian) (l .codes) k) l
     line-stays h =
@@ -70,13 +65,13 @@ module _ {f : Frame} {l : Line} (held : Renewable f l) where
         let none : (j : ℕ) → j < length (l .letters .types) → at j ≡ false = λ j g. simp (lt-leb k j (omega arith)) in
         let acted = renewed-none at (λ j. getD (freshActions f l) j 0) (l .actions) (λ j g. none j (omega (arith, held .actions))) in
         let masked = renewed-none at (λ j. getD (freshLine f l .masks) j 0) (l .masks) (λ j g. none j (omega (arith, held .masks))) in
-        sym (λ i. record { codes = l .codes; letters = l .letters; base = l .base; actions = acted i; masks = masked i })
+        sym (same-line (l .codes) (l .letters) (l .base) acted masked)
 
 pub line-twice : (f : Frame) (at also : ℕ → Bool) (l : Line) → renewedLine f also (renewedLine f at l) ≡ renewedLine f (λ j. also j || at j) l
 line-twice f at also l =
     let acted = renewed-twice at also (λ j. getD (freshActions f l) j 0) (l .actions) in
     let masked = renewed-twice at also (λ j. getD (freshLine f l .masks) j 0) (l .masks) in
-    λ i. record { codes = l .codes; letters = l .letters; base = l .base; actions = acted i; masks = masked i }
+    same-line (l .codes) (l .letters) (l .base) acted masked
 
 -- a renewed line can be renewed again
 pub renewed-held : {f : Frame} {l : Line} → Renewable f l → (at : ℕ → Bool) (m : Line) → m ≡ renewedLine f at l → Renewable f m

@@ -1,4 +1,4 @@
 -- What the contracts of `renewing` cite.
 -- Assumes nothing.
 pub mod Renewed
-pub mod Renewing
+pub mod Renewable

@@ -1,4 +1,5 @@
-// Renewing: the records that a new letter touches get what fresh joining gives, by a walk outward from its place, to the second letter on each side.
+// Renewing: the records that a new letter touches get what fresh joining gives, by walks outward from its place to the second letter on each side,
+// and over the runs of selectors there.
 ghost use mathlib.Core.Path.{_≡_};
 ghost use mathlib.Core.Bool.{cond, _&&_};
 ghost use Prim.Native.Nat.{_+_, _<_, _≤_};
@@ -11,7 +12,7 @@ ghost use Rattle.joining.specs.Joinable.{Joinable};
 ghost use Rattle.lines.specs.Held.{frameBy, lineOf};
 ghost use Rattle.lines.specs.Joined.{actionsBetween};
 ghost use Rattle.renewing.specs.Renewed.{reached, touched, renewed, renewedLine};
-ghost use Rattle.renewing.specs.Renewing.{Renewable};
+ghost use Rattle.renewing.specs.Renewable.{Renewable};
 use letters::Action;
 use letters::JoiningType;
 

@@ -2,7 +2,7 @@
 -- (`refusal-replaced`).
 -- Assumes nothing.
 use mathlib.Core.Path.{_≡_, refl, sym, _∙_}
-use mathlib.Core.Bool.{Bool, true, false, cond, _&&_, _||_, and-eq-true-iff, true≢false}
+use mathlib.Core.Bool.{Bool, true, false, cond, _&&_, _||_, and-eq-true-iff}
 use mathlib.Core.List.{[], _∷_}
 use mathlib.Core.Logic.{_⊎_, inl, inr}
 use Prim.Native.Nat.{ℕ, _<_, _≤_}
@@ -12,6 +12,7 @@ use lib.Dec.{leb, eqb}
 use lib.ListN.{length, getD, length-set}
 use Rattle.laws.specs.Rows.{Given}
 use Rattle.laws.proofs.RowLaws.{first-none}
+use Rattle.laws.proofs.TestLaws.{neither}
 use Rattle.refusals.specs.Columns.{atMost}
 use Rattle.refusals.proofs.ColumnLaws.{atMost-at, atMost-all, atMost-set}
 use Rattle.letters.specs.Types.{X}
@@ -22,7 +23,7 @@ use Rattle.lines.specs.Held.{Setting, Line, After}
 use Rattle.lines.specs.Joined.{typesOf, frameOf, freshActions, evenLine, knownLetters, uneven, tooLong, strange}
 use Rattle.lines.proofs.LineLaws.{Accepted, no-row, left-number, left-stays, left-accepted}
 use Rattle.renewing.specs.Renewed.{touched, renewed}
-use Rattle.renewing.specs.Renewing.{Renewable}
+use Rattle.renewing.specs.Renewable.{Renewable}
 use Rattle.replacing.specs.Replaced.{Request, changed, replacedLine, strangeRequest, outside, replaceRefusal, replaceAfter}
 use Rattle.renewing.proofs.RenewLaws.{length-renewed, renewed-at}
 use Rattle.replacing.proofs.LocalLaws.{length-changed, fresh-most}
@@ -35,11 +36,6 @@ pub record Allowed (s : Setting) (r : Request) (l : Line) : Type 0 where
   pub actions : atMost repeating (l .actions) ≡ true
   pub type : leb (r .type) X ≡ true
   pub category : leb (r .category) Zs ≡ true
-
--- two tests that both failed
-neither : (a b : Bool) → (a || b) ≡ false → (a ≡ false) × (b ≡ false)
-neither true b e = (e, absurd (true≢false e))
-neither false b e = (refl, e)
 
 pub allowed : (s : Setting) (r : Request) (l : Line) → replaceRefusal s r l ≡ 0 → Allowed s r l
 unfolding replaceRefusal

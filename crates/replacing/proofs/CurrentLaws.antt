@@ -2,57 +2,20 @@
 -- every record is as joining afresh gives stays so (`replaced-current`): the records that are touched are joined afresh, and the others need not be.
 -- Assumes nothing.
 use mathlib.Core.Path.{_≡_, refl, sym, ap, _∙_}
-use mathlib.Core.Bool.{Bool, true, false, cond}
-use mathlib.Core.List.{List}
-use mathlib.Core.Logic.{by-cases}
+use mathlib.Core.Bool.{Bool, true, false}
 use Prim.Native.Nat.{ℕ, _<_, _≤_}
-use native.Mathlib.Decide.{decLt}
 use native.Mathlib.Omega.{arith}
-use lib.ListN.{length, getD, List·getD-eq-default}
-use lib.Seq.{ext-getD}
+use lib.ListN.{length, getD}
 use Rattle.masks.specs.Masks.{masks}
 use Rattle.masks.proofs.MaskLaws.{length-masks}
 use Rattle.lines.specs.Held.{Setting, Line}
 use Rattle.lines.specs.Joined.{typesOf, frameOf, freshActions, freshLine}
+use Rattle.lines.proofs.LineLaws.{length-fresh, same-line}
 use Rattle.renewing.specs.Renewed.{touched, renewed}
 use Rattle.replacing.specs.Replaced.{Request, changed, replacedLine}
-use Rattle.renewing.proofs.RenewLaws.{length-renewed, renewed-at}
-use Rattle.replacing.proofs.LocalLaws.{TouchesIn, touched-touches, touches-touched, length-fresh, length-changed, untouched-action, untouched-mask}
+use Rattle.renewing.proofs.RenewLaws.{renewed-right, renewed-else, renewed-there}
+use Rattle.replacing.proofs.LocalLaws.{TouchesIn, touched-touches, touches-touched, length-changed, untouched-action, untouched-mask}
 use Rattle.replacing.proofs.AllowedLaws.{Allowed, length-letters}
-
--- a column that is right wherever it is not renewed is right then
-pub renewed-right :
-    (at : ℕ → Bool) (xs ys : List ℕ) → length xs ≡ length ys → ((j : ℕ) → j < length xs → at j ≡ false → getD xs j 0 ≡ getD ys j 0)
-    → renewed at (λ j. getD ys j 0) xs ≡ ys
-renewed-right at xs ys e right =
-    let fresh : ℕ → ℕ = λ j. getD ys j 0 in
-    let n = length-renewed at fresh xs in
-    ext-getD 0 (renewed at fresh xs) ys (n ∙ e) (λ j h. let on : j < length xs = omega arith in renewed-at at fresh xs j on ∙ go j (at j) (right j on))
-  where
-    go : (j : ℕ) (b : Bool) → (b ≡ false → getD xs j 0 ≡ getD ys j 0) → cond b (getD ys j 0) (getD xs j 0) ≡ getD ys j 0
-    go j true r = refl
-    go j false r = r refl
-
--- a record that is not renewed, and one that is; past the end is neither
-renewed-else : (at : ℕ → Bool) (fresh : ℕ → ℕ) (xs : List ℕ) (j : ℕ) → (j < length xs → at j ≡ false) → getD (renewed at fresh xs) j 0 ≡ getD xs j 0
-renewed-else at fresh xs j off = by-cases (decLt j (length xs)) on (λ n. past (omega (arith, n)))
-  where
-    on : j < length xs → getD (renewed at fresh xs) j 0 ≡ getD xs j 0
-    on h = renewed-at at fresh xs j h ∙ simp (off h)
-
-    past : length xs ≤ j → getD (renewed at fresh xs) j 0 ≡ getD xs j 0
-    past h = List·getD-eq-default (renewed at fresh xs) 0 (omega (arith, length-renewed at fresh xs)) ∙ sym (List·getD-eq-default xs 0 h)
-
-renewed-there :
-    (at : ℕ → Bool) (xs ys : List ℕ) (j : ℕ) → length xs ≡ length ys → (j < length xs → at j ≡ true) → getD (renewed at (λ i. getD ys i 0) xs) j 0 ≡ getD ys j 0
-renewed-there at xs ys j e holds = by-cases (decLt j (length xs)) on (λ n. past (omega (arith, n)))
-  where
-    on : j < length xs → getD (renewed at (λ i. getD ys i 0) xs) j 0 ≡ getD ys j 0
-    on h = renewed-at at (λ i. getD ys i 0) xs j h ∙ simp (holds h)
-
-    past : length xs ≤ j → getD (renewed at (λ i. getD ys i 0) xs) j 0 ≡ getD ys j 0
-    past h =
-        List·getD-eq-default (renewed at (λ i. getD ys i 0) xs) 0 (omega (arith, length-renewed at (λ i. getD ys i 0) xs)) ∙ sym (List·getD-eq-default ys 0 (omega arith))
 
 -- a request that is carried out
 module _ (s : Setting) (r : Request) (l : Line) (a : Allowed s r l) where
@@ -114,5 +77,4 @@ module _ (s : Setting) (r : Request) (l : Line) (a : Allowed s r l) where
       renewed-right at (l .masks) fresh masks-long
       (λ j h off. ap (λ (m : Line). getD (m .masks) j 0) now ∙ sym (untouched-mask f r l j (omega (arith, a .line .masks)) within off (s .features) (l .base) (omega (arith, a .line .masks, a .line .base))))
       in
-      ap (λ (x : List ℕ). record { codes = new .codes; letters = new .letters; base = l .base; actions = x; masks = renewed at (λ j. getD fresh j 0) (l .masks) }) actions
-      ∙ ap (λ (x : List ℕ). record { codes = new .codes; letters = new .letters; base = l .base; actions = freshActions f new; masks = x }) masked
+      same-line (new .codes) (new .letters) (l .base) actions masked

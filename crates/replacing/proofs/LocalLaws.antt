@@ -4,7 +4,7 @@
 -- that joining afresh gives it (`untouched-action`, `untouched-mask`), and stays touched or not from every other place (`untouched-touched`).
 -- Assumes nothing.
 use mathlib.Core.Path.{_≡_, refl, sym, ap, _∙_}
-use mathlib.Core.Bool.{Bool, true, false, cond, _&&_, _||_, and-eq-true-iff, false≢true}
+use mathlib.Core.Bool.{Bool, true, false, cond, _&&_, and-eq-true-iff, false≢true}
 use mathlib.Core.List.{List}
 use mathlib.Core.Logic.{_⊎_, inl, inr, ⊎-elim, by-cases}
 use Prim.Native.Nat.{ℕ, suc, _+_, _-_, _<_, _≤_}
@@ -15,6 +15,7 @@ use borrow.Author.Tests.{leb-true, le-leb}
 use lib.Dec.{leb}
 use lib.ListN.{length, getD, drop, set, length-set}
 use lib.Seq.{getD-drop, getD-set-other}
+use Rattle.laws.proofs.TestLaws.{either, either-made, same-truth}
 use Rattle.refusals.proofs.ColumnLaws.{atMost-at}
 use Rattle.shapes.specs.Joining.{form, eachBetween}
 use Rattle.shapes.specs.Places.{placeBefore, placeBehind}
@@ -22,13 +23,13 @@ use Rattle.shapes.proofs.JoiningLaws.{form-transparent, each-most, length-each,
 use Rattle.shapes.proofs.PlaceLaws.{Beside, each-set, before-beside, beside-before, behind-beside, beside-behind}
 use Rattle.letters.specs.Types.{resolved}
 use Rattle.letters.specs.Actions.{none}
-use Rattle.selectors.specs.Selectors.{selector, settled, run}
+use Rattle.selectors.specs.Selectors.{selector, run}
 use Rattle.selectors.proofs.RunLaws.{marked, Reaches, Rests, run-all, run-most, rests, settled-rests}
 use Rattle.masks.specs.Masks.{mask, masks}
 use Rattle.masks.proofs.MaskLaws.{masks-at}
-use Rattle.selectors.proofs.SelectorLaws.{length-settled}
 use Rattle.lines.specs.Held.{Frame, Line}
 use Rattle.lines.specs.Joined.{typesOf, freshActions}
+use Rattle.lines.proofs.LineLaws.{length-fresh}
 use Rattle.renewing.specs.Renewed.{reached, touched}
 use Rattle.replacing.specs.Replaced.{Request, changed}
 
@@ -126,25 +127,6 @@ module _ (cs : List ℕ) (k j : ℕ) where
           omega (arith, most)
       far false r = ⊎-elim (λ e. omega arith) (λ l. absurd (false≢true (r .all j l (omega arith)))) (eq-or-lt-of-le (r .forward))
 
--- one of three tests
-either : (a b c : Bool) → (a || (b || c)) ≡ true → (a ≡ true) ⊎ ((b ≡ true) ⊎ (c ≡ true))
-either true b c e = inl refl
-either false true c e = inr (inl refl)
-either false false c e = inr (inr e)
-
-either-made : (a b c : Bool) → (a ≡ true) ⊎ ((b ≡ true) ⊎ (c ≡ true)) → (a || (b || c)) ≡ true
-either-made true b c e = refl
-either-made false true c e = refl
-either-made false false c (inl e) = absurd (false≢true e)
-either-made false false c (inr (inl e)) = absurd (false≢true e)
-either-made false false c (inr (inr e)) = e
-
--- two tests that pass together
-same-truth : (a b : Bool) → (a ≡ true → b ≡ true) → (b ≡ true → a ≡ true) → a ≡ b
-same-truth true b on back = sym (on refl)
-same-truth false true on back = back refl
-same-truth false false on back = refl
-
 module _ (f : Frame) (l : Line) (p j : ℕ) (within : p ≤ length (typesOf (l .letters))) (on : j < length (typesOf (l .letters))) where
   pub touched-touches : touched f l p j ≡ true → TouchesIn f l p j
   touched-touches e =
@@ -180,16 +162,6 @@ module _ (f : Frame) (l : Line) (p j : ℕ) (within : p ≤ length (typesOf (l .
       (t .near))
 
 -- ---- a line, and the same line with a new letter
-pub length-fresh : (f : Frame) (l : Line) → length (freshActions f l) ≡ length (typesOf (l .letters))
-length-fresh f l = go (f .mongolian)
-  where
-    go :
-        (m : Bool)
-        → length (cond m (settled (l .codes) (eachBetween form (f .before) (typesOf (l .letters)) (f .behind))) (eachBetween form (f .before) (typesOf (l .letters)) (f .behind)))
-        ≡ length (typesOf (l .letters))
-    go true = length-settled (l .codes) (eachBetween form (f .before) (typesOf (l .letters)) (f .behind)) ∙ length-each form (f .before) (typesOf (l .letters)) (f .behind)
-    go false = length-each form (f .before) (typesOf (l .letters)) (f .behind)
-
 -- the action of a record is that of the letter where it rests
 fresh-rests :
     (f : Frame) (l : Line) (k j : ℕ) → Rests (marks f l) k j → j < length (typesOf (l .letters))

@@ -4,48 +4,21 @@
 -- Assumes nothing.
 use mathlib.Core.Path.{_≡_, refl, sym, ap, _∙_}
 use mathlib.Core.Bool.{Bool, true, false, cond}
-use mathlib.Core.List.{List}
 use Prim.Native.Nat.{ℕ, _<_, _≤_}
 use native.Mathlib.Omega.{arith}
 use borrow.Author.Tests.{eqb-true}
 use lib.Dec.{eqb}
 use lib.ListN.{length, getD}
-use lib.Seq.{ext-getD, set-comm}
+use lib.Seq.{set-comm}
 use Rattle.masks.specs.Masks.{masks}
 use Rattle.lines.specs.Held.{Setting, Frame, Line, After}
 use Rattle.lines.specs.Joined.{typesOf, frameOf, freshActions}
+use Rattle.lines.proofs.LineLaws.{same-line}
 use Rattle.renewing.specs.Renewed.{touched, renewed}
 use Rattle.replacing.specs.Replaced.{Request, changed, replacedLine, replaceRefusal, replaceAfter}
-use Rattle.renewing.proofs.RenewLaws.{length-renewed, renewed-at}
+use Rattle.renewing.proofs.RenewLaws.{renewed-order}
 use Rattle.replacing.proofs.LocalLaws.{length-changed, untouched-action, untouched-mask, untouched-touched}
 use Rattle.replacing.proofs.AllowedLaws.{Allowed, allowed, length-letters, refusal-replaced}
-
--- records renewed twice: first where `one` holds, then where `other′` does; or first where `other` holds, then where `one′` does
-module _ (one one′ other other′ : ℕ → Bool) (x y both : ℕ → ℕ) (column : List ℕ) where
-  pub renewed-order :
-      ((j : ℕ) → j < length column → other′ j ≡ false → (one j ≡ one′ j) × (x j ≡ both j))
-      → ((j : ℕ) → j < length column → one′ j ≡ false → (other j ≡ other′ j) × (y j ≡ both j))
-      → renewed other′ both (renewed one x column) ≡ renewed one′ both (renewed other y column)
-  renewed-order left right =
-      let n = length-renewed one x column in
-      let m = length-renewed other y column in
-      let n′ = length-renewed other′ both (renewed one x column) in
-      let m′ = length-renewed one′ both (renewed other y column) in
-      ext-getD 0 (renewed other′ both (renewed one x column)) (renewed one′ both (renewed other y column)) (n′ ∙ n ∙ sym (m′ ∙ m))
-      (λ j h.
-      let on : j < length column = omega arith in
-      renewed-at other′ both (renewed one x column) j (omega arith)
-      ∙ ap (cond (other′ j) (both j)) (renewed-at one x column j on)
-      ∙ go j (one j) (one′ j) (other j) (other′ j) (left j on) (right j on)
-      ∙ sym (renewed-at one′ both (renewed other y column) j (omega arith) ∙ ap (cond (one′ j) (both j)) (renewed-at other y column j on)))
-    where
-      go :
-          (j : ℕ) (a a′ b b′ : Bool) → (b′ ≡ false → (a ≡ a′) × (x j ≡ both j)) → (a′ ≡ false → (b ≡ b′) × (y j ≡ both j))
-          → cond b′ (both j) (cond a (x j) (getD column j 0)) ≡ cond a′ (both j) (cond b (y j) (getD column j 0))
-      go j a true b true l r = refl
-      go j a false b true l r = let e = r refl in rw (e .0, e .1)
-      go j a true b false l r = let e = l refl in rw (e .0, e .1)
-      go j a false b false l r = rw (l refl .0, r refl .0)
 
 changed-comm : (p q : Request) (l : Line) → (p .place ≡ q .place → ⊥) → changed q (changed p l) ≡ changed p (changed q l)
 changed-comm p q l d =
@@ -107,23 +80,21 @@ replaced-order s p q l a b d =
     (λ j h no. let o : j < length (l .letters .types) = omega (arith, a .line .masks) in (alone-touched s p q l a b j o no, alone-mask s p q l a b j o no))
     (λ j h no. let o : j < length (l .letters .types) = omega (arith, a .line .masks) in (alone-touched s q p l b a j o (back j no) ∙ ap (λ (m : Line). touched f m (q .place) j) c, alone-mask s q p l b a j o (back j no) ∙ ap (λ (m : Line). getD (masks (s .features) (l .base) (freshActions f m)) j 0) c))
     in
-    ap (λ (v : List ℕ). record { codes = both .codes; letters = both .letters; base = l .base; actions = v; masks = renewedTwice f both (q .place) (changed p l) (p .place) l .masks }) actions
-    ∙ ap (λ (v : List ℕ). record { codes = both .codes; letters = both .letters; base = l .base; actions = renewedTwice f both (p .place) (changed q l) (q .place) l .actions; masks = v }) masked
-    ∙ ap (λ (m : Line). renewedTwice f m (p .place) (changed q l) (q .place) l) (sym c)
+    same-line (both .codes) (both .letters) (l .base) actions masked ∙ ap (λ (m : Line). renewedTwice f m (p .place) (changed q l) (q .place) l) (sym c)
 
 -- ---- two calls
 -- the line that a call leaves
-abbrev lineLeft : Setting → Request → Line → Line
-lineLeft s r l = cond (eqb (replaceRefusal s r l) 0) (replacedLine (frameOf s) r l) l
+abbrev lineAfter : Setting → Request → Line → Line
+lineAfter s r l = cond (eqb (replaceRefusal s r l) 0) (replacedLine (frameOf s) r l) l
 
-left-line : (s : Setting) (r : Request) (l : Line) (n : ℕ) (m : Line) → After n m ≡ replaceAfter s r l → m ≡ lineLeft s r l
+left-line : (s : Setting) (r : Request) (l : Line) (n : ℕ) (m : Line) → After n m ≡ replaceAfter s r l → m ≡ lineAfter s r l
 left-line s r l n m = go (eqb (replaceRefusal s r l) 0)
   where
     go : (b : Bool) → After n m ≡ cond b (After 0 (replacedLine (frameOf s) r l)) (After (replaceRefusal s r l) l) → m ≡ cond b (replacedLine (frameOf s) r l) l
     go true e = cc
     go false e = cc
 
-refusal-left : (s : Setting) (p q : Request) (l : Line) → replaceRefusal s q (lineLeft s p l) ≡ replaceRefusal s q l
+refusal-left : (s : Setting) (p q : Request) (l : Line) → replaceRefusal s q (lineAfter s p l) ≡ replaceRefusal s q l
 refusal-left s p q l = go (eqb (replaceRefusal s p l) 0) refl
   where
     go : (b : Bool) → eqb (replaceRefusal s p l) 0 ≡ b → replaceRefusal s q (cond b (replacedLine (frameOf s) p l) l) ≡ replaceRefusal s q l
@@ -133,8 +104,8 @@ refusal-left s p q l = go (eqb (replaceRefusal s p l) 0) refl
 pub refusal-behind : (s : Setting) (p q : Request) (l : Line) (n : ℕ) (k : Line) → After n k ≡ replaceAfter s p l → replaceRefusal s q k ≡ replaceRefusal s q l
 refusal-behind s p q l n k e = rw (left-line s p l n k e) (refusal-left s p q l)
 
-lineLeft-order : (s : Setting) (p q : Request) (l : Line) → (p .place ≡ q .place → ⊥) → lineLeft s q (lineLeft s p l) ≡ lineLeft s p (lineLeft s q l)
-lineLeft-order s p q l d =
+lineAfter-order : (s : Setting) (p q : Request) (l : Line) → (p .place ≡ q .place → ⊥) → lineAfter s q (lineAfter s p l) ≡ lineAfter s p (lineAfter s q l)
+lineAfter-order s p q l d =
     rw (refusal-left s p q l, refusal-left s q p l) (go (eqb (replaceRefusal s p l) 0) refl (eqb (replaceRefusal s q l) 0) refl)
   where
     go :
@@ -151,4 +122,4 @@ pub left-order :
     (s : Setting) (p q : Request) (l : Line) → (p .place ≡ q .place → ⊥) → (n i : ℕ) (k m : Line) → After n k ≡ replaceAfter s p l → After i m ≡ replaceAfter s q k
     → (n′ i′ : ℕ) (k′ m′ : Line) → After n′ k′ ≡ replaceAfter s q l → After i′ m′ ≡ replaceAfter s p k′ → m ≡ m′
 left-order s p q l d n i k m e f n′ i′ k′ m′ e′ f′ =
-    left-line s q k i m f ∙ ap (lineLeft s q) (left-line s p l n k e) ∙ lineLeft-order s p q l d ∙ sym (left-line s p k′ i′ m′ f′ ∙ ap (lineLeft s p) (left-line s q l n′ k′ e′))
+    left-line s q k i m f ∙ ap (lineAfter s q) (left-line s p l n k e) ∙ lineAfter-order s p q l d ∙ sym (left-line s p k′ i′ m′ f′ ∙ ap (lineAfter s p) (left-line s q l n′ k′ e′))

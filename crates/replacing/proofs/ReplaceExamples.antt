@@ -17,7 +17,7 @@ abbrev features : List ℕ
 features = 0x1 ∷ 0x2 ∷ 0x4 ∷ 0x8 ∷ 0x10 ∷ 0x20 ∷ 0x40 ∷ []
 
 -- document 01's: D D D, the middle replaced by U: isol none isol. The new masks are made of the base masks, not of the old ones
-worked :
+pub worked :
     replaceAfter (settingOf [] [] [] [] features false) (requestOf 1 0x41 U Lu)
     (lineOf (0x628 ∷ 0x62A ∷ 0x62B ∷ []) (D ∷ D ∷ D ∷ []) (Lo ∷ Lo ∷ Lo ∷ []) (0x100 ∷ 0x200 ∷ 0x400 ∷ []) (init ∷ medi ∷ fina ∷ []) (0x140 ∷ 0x210 ∷ 0x402 ∷ []))
     ≡ After 0
@@ -26,7 +26,7 @@ unfolding form mask replaceRefusal
 worked = refl
 
 -- a line that was not current: the stale action and mask of the record before the place stay, and are not copied
-stale :
+pub stale :
     replaceAfter (settingOf [] [] [] [] features true) (requestOf 1 0x180C T Mn)
     (lineOf (0x70F ∷ 0x180B ∷ []) (T ∷ T ∷ []) (Cf ∷ Mn ∷ []) (0 ∷ 0 ∷ []) (medi ∷ medi ∷ []) (0x10 ∷ 0x10 ∷ []))
     ≡ After 0 (lineOf (0x70F ∷ 0x180C ∷ []) (T ∷ T ∷ []) (Cf ∷ Mn ∷ []) (0 ∷ 0 ∷ []) (medi ∷ none ∷ []) (0x10 ∷ 0 ∷ []))

@@ -1,18 +1,21 @@
 -- Replacing a letter of a held line (document 01, "Replacing a letter"): `Request` what is asked for; `changed` the line with the new letter; `replacedLine` that line with
 -- the records joined afresh that it touches; `strangeRequest`, `outside`, `replaceRows`, `replaceRefusal` when replacing is refused, and with which number;
--- `replaceAfter` what the call answers and leaves, of every input.
+-- `replaceAfter`, `Replacing` what the call answers and leaves, of every input.
 -- Assumes nothing.
+use mathlib.Core.Path.{_≡_}
 use mathlib.Core.Bool.{Bool, not, _&&_, _||_}
 use mathlib.Core.List.{List, [], _∷_}
 use Prim.Native.Nat.{ℕ}
 use lib.Dec.{leb, ltb}
 use lib.ListN.{length, set}
 use Rattle.laws.specs.Rows.{Row, Given, first}
+use Rattle.refusals.specs.declared.Verdict.{Verdict}
+use Rattle.refusals.specs.Numbers.{said}
 use Rattle.refusals.specs.Columns.{atMost}
 use Rattle.letters.specs.Types.{X}
 use Rattle.letters.specs.Categories.{Zs}
 use Rattle.letters.specs.Actions.{repeating}
-use Rattle.lines.specs.Held.{Setting, Frame, Line, Left, leaves, lettersOf}
+use Rattle.lines.specs.Held.{Setting, Frame, Line, Left, After, leaves, lettersOf}
 use Rattle.lines.specs.Joined.{frameOf, evenLine, uneven, tooLong, strange}
 use Rattle.renewing.specs.Renewed.{touched, renewedLine}
 
@@ -64,3 +67,7 @@ replaceRefusal s r l = first (replaceRows s r l)
 -- the call: a refusal gives its number and leaves the line as it was
 abbrev pub replaceAfter : Setting → Request → Line → Left
 replaceAfter s r l = leaves (replaceRefusal s r l) l (replacedLine (frameOf s) r l)
+
+-- the statement of `replace_letter`: in the setting s, asked for r on the line l, it may answer v and leave the line m
+abbrev pub Replacing : Setting → Request → Line → Verdict → Line → Type 0
+Replacing s r l v m = After (said v) m ≡ replaceAfter s r l

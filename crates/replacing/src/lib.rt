@@ -1,12 +1,12 @@
-// Replacing: the public call that replaces a letter of a held line. Beyond its tests it costs its neighbourhood.
+// Replacing: the public call that replaces a letter of a held line. Beyond its tests it costs what stands around the place.
 ghost use mathlib.Core.Path.{_≡_};
 ghost use mathlib.Core.Bool.{false};
 ghost use mathlib.Core.List.{[]};
 ghost use Rattle.laws.specs.Rows.{first};
 ghost use Rattle.refusals.specs.Numbers.{said};
-ghost use Rattle.lines.specs.Held.{After, settingOf, lineOf};
+ghost use Rattle.lines.specs.Held.{settingOf, lineOf};
 ghost use Rattle.lines.specs.Joined.{frameOf};
-ghost use Rattle.replacing.specs.Replaced.{requestOf, replacedLine, replaceRows, replaceRefusal, replaceAfter};
+ghost use Rattle.replacing.specs.Replaced.{requestOf, replacedLine, replaceRows, replaceRefusal, Replacing};
 use letters::Action;
 use letters::Category;
 use letters::Code;
@@ -92,7 +92,8 @@ fn refused(
     line.sooner(strange.sooner(outside))
 }
 
-// Replaces the letter at a place of a held line: writes its code, type and category, and the actions and masks that go by it. The contexts have their nearest letters first.
+// Replaces the letter at a place of a held line: writes its code, type and category, and the actions and masks that go by it. The contexts have
+// their nearest letters first. Contexts, feature masks and script are those that the line was joined with: where they change, join it again.
 pub fn replace_letter(
     codes: &mut [u32],
     types: &mut [u8],
@@ -111,7 +112,7 @@ pub fn replace_letter(
     joining_type: JoiningType,
     category: Category,
 ) -> Verdict
-    ensures { λ r. ⌜ After (said r) (lineOf (now (codes .exit)) (now (types .exit)) (now (cats .exit)) (now (base .entry)) (now (actions .exit)) (now (masks .exit))) ≡ replaceAfter (settingOf (now («pre_types» .entry)) (now («pre_cats» .entry)) (now («post_types» .entry)) (now («post_cats» .entry)) features mongolian) (requestOf place (code .0) («joining_type» .0) (category .0)) (lineOf (now (codes .entry)) (now (types .entry)) (now (cats .entry)) (now (base .entry)) (now (actions .entry)) (now (masks .entry))) ⌝ }
+    ensures { λ r. ⌜ Replacing (settingOf (now («pre_types» .entry)) (now («pre_cats» .entry)) (now («post_types» .entry)) (now («post_cats» .entry)) features mongolian) (requestOf place (code .0) («joining_type» .0) (category .0)) (lineOf (now (codes .entry)) (now (types .entry)) (now (cats .entry)) (now (base .entry)) (now (actions .entry)) (now (masks .entry))) r (lineOf (now (codes .exit)) (now (types .exit)) (now (cats .exit)) (now (base .entry)) (now (actions .exit)) (now (masks .exit))) ⌝ }
 {
     let verdict = refused(
         codes,

@@ -1,11 +1,10 @@
--- Laws of settled actions: a turn of the loop that settles them; which record's action a place has in the end; what that depends on.
+-- Laws of settled actions: a turn of the loop that settles them; which record's action a place has in the end, and a turn of the walk back to it.
 -- Assumes nothing.
 use mathlib.Core.Path.{_≡_, refl, sym, ap, _∙_}
 use mathlib.Core.Bool.{Bool, true, false, cond}
 use mathlib.Core.List.{List, [], _∷_, _++_}
-use mathlib.Core.Logic.{⊎-elim}
 use Prim.Native.Nat.{ℕ, zero, suc, _+_, _-_, _<_, _≤_}
-use native.Mathlib.Nat.{le-of-suc-le-suc, eq-or-lt-of-le}
+use native.Mathlib.Nat.{le-of-suc-le-suc}
 use native.Mathlib.Omega.{arith}
 use lib.ListN.{length, getD, take, drop, set, length-drop, length-set, take-append-drop}
 use lib.Seq.{take-set-le, drop-set-lt, getD-set-same, set-getD}
@@ -94,28 +93,6 @@ base-reaches cs (suc k) = go (selector (getD cs (suc k) 0)) (base-reaches cs k)
     go true ih = omega arith
     go false ih = omega arith
 
--- behind it, up to k, stand selectors only
-pub base-run : (cs : List ℕ) (k j : ℕ) → base cs k ≤ j → suc j ≤ k → selector (getD cs (suc j) 0) ≡ true
-base-run cs zero j l h = absurd (omega arith)
-base-run cs (suc k) j l h = go (selector (getD cs (suc k) 0)) refl l (base-run cs k j)
-  where
-    go :
-        (s : Bool) → selector (getD cs (suc k) 0) ≡ s → cond s (base cs k) (suc k) ≤ j
-        → (base cs k ≤ j → suc j ≤ k → selector (getD cs (suc j) 0) ≡ true) → selector (getD cs (suc j) 0) ≡ true
-    go true e l ih = ⊎-elim (λ q. rw q e) (λ m. ih l (le-of-suc-le-suc m)) (eq-or-lt-of-le h)
-    go false e l ih = absurd (omega arith)
-
--- and it is none itself, unless it is the first
-pub base-stops : (cs : List ℕ) (k : ℕ) → 0 < base cs k → selector (getD cs (base cs k) 0) ≡ false
-base-stops cs zero l = absurd (omega arith)
-base-stops cs (suc k) l = go (selector (getD cs (suc k) 0)) refl l (base-stops cs k)
-  where
-    go :
-        (s : Bool) → selector (getD cs (suc k) 0) ≡ s → 0 < cond s (base cs k) (suc k)
-        → (0 < base cs k → selector (getD cs (base cs k) 0) ≡ false) → selector (getD cs (cond s (base cs k) (suc k)) 0) ≡ false
-    go true e l ih = ih l
-    go false e l ih = e
-
 pub settled-at : (cs acts : List ℕ) (k : ℕ) → k < length acts → getD (settled cs acts) k 0 ≡ getD acts (base cs k) 0
 settled-at cs acts zero h = settled-first cs acts
 settled-at cs acts (suc k) h = settled-next cs acts k h ∙ go (selector (getD cs (suc k) 0)) (settled-at cs acts k (omega arith))
@@ -136,61 +113,6 @@ base-skips cs (suc k) l e =
 pub base-here : (cs : List ℕ) (k : ℕ) → 0 < k → selector (getD cs k 0) ≡ false → base cs k ≡ k
 base-here cs zero l e = absurd (omega arith)
 base-here cs (suc k) l e = simp e
-
--- ---- what a place depends on
--- the two lines have selectors at the same places from m to k; the first record's code counts for nothing
-abbrev pub Alike : List ℕ → List ℕ → ℕ → ℕ → Type 0
-Alike cs ds m k = (j : ℕ) → m ≤ suc j → suc j ≤ k → selector (getD cs (suc j) 0) ≡ selector (getD ds (suc j) 0)
-
-pub base-local : (cs ds : List ℕ) (k : ℕ) → Alike cs ds (base cs k) k → base ds k ≡ base cs k
-base-local cs ds zero same = refl
-base-local cs ds (suc k) same =
-    go (selector (getD cs (suc k) 0)) (sym (same k (base-reaches cs (suc k)) (omega arith))) same (λ (f : Alike cs ds (base cs k) k). base-local cs ds k f)
-  where
-    go :
-        (s : Bool) → selector (getD ds (suc k) 0) ≡ s → Alike cs ds (cond s (base cs k) (suc k)) (suc k)
-        → (Alike cs ds (base cs k) k → base ds k ≡ base cs k)
-        → cond (selector (getD ds (suc k) 0)) (base ds k) (suc k) ≡ cond s (base cs k) (suc k)
-    go true e same ih = rw e (ih (λ j l h. same j l (omega arith)))
-    go false e same ih = rw e refl
-
--- place k has the action of one record, and only the codes from there to k say which
-pub settled-local :
-    (cs ds acts others : List ℕ) (k : ℕ) → k < length acts → k < length others → Alike cs ds (base cs k) k
-    → getD acts (base cs k) 0 ≡ getD others (base cs k) 0 → getD (settled cs acts) k 0 ≡ getD (settled ds others) k 0
-settled-local cs ds acts others k h g same e =
-    settled-at cs acts k h ∙ e ∙ ap (λ (j : ℕ). getD others j 0) (sym (base-local cs ds k same)) ∙ sym (settled-at ds others k g)
-
--- ---- parts of a line
-take-follow : (v : ℕ) (k : ℕ) (cs acts : List ℕ) → take k (follow v cs acts) ≡ follow v (take k cs) (take k acts)
-take-follow v zero cs acts = refl
-take-follow v (suc k) [] acts = refl
-take-follow v (suc k) (c ∷ cs) [] = refl
-take-follow v (suc k) (c ∷ cs) (a ∷ acts) = ap (λ (l : List ℕ). cond (selector c) v a ∷ l) (take-follow (cond (selector c) v a) k cs acts)
-
--- the front of a line does not depend on what is behind it
-pub take-settled : (k : ℕ) (cs acts : List ℕ) → take k (settled cs acts) ≡ settled (take k cs) (take k acts)
-take-settled zero cs acts = refl
-take-settled (suc k) [] acts = refl
-take-settled (suc k) (c ∷ cs) [] = refl
-take-settled (suc k) (c ∷ cs) (a ∷ acts) = ap (λ (l : List ℕ). a ∷ l) (take-follow a k cs acts)
-
-module _ (d : ℕ) (ds : List ℕ) (b : ℕ) (bs : List ℕ) (none : selector d ≡ false) where
-  follow-apart :
-      (v : ℕ) (cs acts : List ℕ) → length cs ≡ length acts
-      → follow v (cs ++ (d ∷ ds)) (acts ++ (b ∷ bs)) ≡ follow v cs acts ++ settled (d ∷ ds) (b ∷ bs)
-  follow-apart v [] [] e = simp none
-  follow-apart v [] (a ∷ acts) e = absurd (omega arith)
-  follow-apart v (c ∷ cs) [] e = absurd (omega arith)
-  follow-apart v (c ∷ cs) (a ∷ acts) e = ap (λ (l : List ℕ). cond (selector c) v a ∷ l) (follow-apart (cond (selector c) v a) cs acts (omega arith))
-
-  -- a line falls into two before a record that is no selector
-  pub settled-apart :
-      (cs acts : List ℕ) → length cs ≡ length acts → settled (cs ++ (d ∷ ds)) (acts ++ (b ∷ bs)) ≡ settled cs acts ++ settled (d ∷ ds) (b ∷ bs)
-  settled-apart [] [] e = refl
-  settled-apart [] (a ∷ acts) e = absurd (omega arith)
-  settled-apart (c ∷ cs) [] e = absurd (omega arith)
-  settled-apart (c ∷ cs) (a ∷ acts) e = ap (λ (l : List ℕ). a ∷ l) (follow-apart a cs acts (omega arith))
 
 -- ---- one answer: that of `is_selector`, that of `base_of`, and the actions that `mongolian_variation_selectors` leaves
 pub selector-once : (c : ℕ) {r s : Bool} → r ≡ selector c → s ≡ selector c → r ≡ s

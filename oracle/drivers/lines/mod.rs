@@ -5,6 +5,8 @@
 //! there the Rust looks it up by the code. All records have one cluster, so the Rust sets no break flag in a mask, and masks are
 //! compared in all their bits.
 
+#![allow(dead_code)] // a driver uses what it needs of this
+
 use crate::frame::{Case, Cases, Draw};
 use oracle::lent::LENT_GC;
 use oracle::ot::shaper::arabic::probe;
@@ -77,20 +79,20 @@ pub fn one_category_a_code(pre: &mut [Letter], post: &mut [Letter]) {
 
 // ---- asking the Rust, and writing down
 
-fn codes(letters: &[Letter]) -> Vec<u32> {
+pub fn codes(letters: &[Letter]) -> Vec<u32> {
     letters.iter().map(|&(code, _)| code).collect()
 }
 
-fn categories(letters: &[Letter]) -> Vec<u8> {
+pub fn categories(letters: &[Letter]) -> Vec<u8> {
     letters.iter().map(|&(_, category)| category).collect()
 }
 
-fn types(letters: &[Letter]) -> Vec<u8> {
+pub fn types(letters: &[Letter]) -> Vec<u8> {
     letters.iter().map(|&(code, _)| probe::table_type(code)).collect()
 }
 
 /// The actions and the masks after the call.
-fn joined(line: &Line) -> (Vec<u8>, Vec<u32>) {
+pub fn joined(line: &Line) -> (Vec<u8>, Vec<u32>) {
     LENT_GC.with(|lent| *lent.borrow_mut() = line.pre.iter().chain(&line.post).copied().collect());
     let mut buffer = probe::fresh(&codes(&line.letters), &categories(&line.letters), &codes(&line.pre), &codes(&line.post));
     for i in 0..line.letters.len() {
@@ -106,7 +108,7 @@ fn joined(line: &Line) -> (Vec<u8>, Vec<u32>) {
 }
 
 /// All that goes in, as every driver of lines writes it.
-fn inputs(line: &Line) -> Case {
+pub fn inputs(line: &Line) -> Case {
     Case::new()
         .flag(line.mongolian)
         .u32s(&line.features)

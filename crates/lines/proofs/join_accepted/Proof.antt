@@ -8,7 +8,7 @@ use borrow.Author.Needs.{needs}
 use Rattle.selectors.specs.Selectors.{settled}
 use Rattle.masks.specs.Masks.{masks}
 use Rattle.lines.specs.Held.{Setting, Line, settingOf, lineOf}
-use Rattle.lines.proofs.LineLaws.{Accepted, accepted}
+use Rattle.lines.proofs.LineLaws.{Accepted, accepted, same-line}
 use Rattle.lines.proofs.join_accepted.Statement.{statement}
 use Rattle.lines.proofs.join_accepted.Tie as tie
 
@@ -50,7 +50,7 @@ returns c =
     let joined = c .before .before .before .before .before .before .before .before .before .before .before .arabic-joining .ensures in
     let acted = c .before .before .before .before .before .before .before .settle .ensures ∙ ap (λ (l : List ℕ). cond (s .args .mongolian) (settled (s .args .codes .now) l) l) joined in
     let masked = c .before .before .setup-masks .ensures ∙ ap (masks (s .args .features) (s .args .base .now)) acted in
-    λ i. record { codes = line s .codes; letters = line s .letters; base = line s .base; actions = acted i; masks = masked i }
+    same-line (line s .codes) (line s .letters) (line s .base) acted masked
 
 pub join-accepted-spec : {M : Type 1} → statement M
 join-accepted-spec =

@@ -1,6 +1,5 @@
 -- `renewing::fresh_action` meets its contract: the rule at the record's home, between the letters that stand there.
 -- Assumes nothing.
-use mathlib.Core.Path.{_≡_}
 use Prim.Native.Nat.{_<_}
 use native.Mathlib.Omega.{arith}
 use borrow.Author.Needs.{needs}

@@ -1,12 +1,12 @@
 -- `replacing::refused` meets its contract: the rows of joining, with those that replacing adds.
 -- Assumes nothing.
 use mathlib.Core.Path.{_≡_, refl}
-use mathlib.Core.Bool.{Bool, false, _||_}
+use mathlib.Core.Bool.{Bool, _||_}
 use mathlib.Core.List.{[], _∷_}
 use borrow.Author.Needs.{needs}
 use Rattle.laws.specs.Rows.{Given, first, sooner}
 use Rattle.laws.proofs.RowLaws.{sooner-first}
-use Rattle.lines.specs.Held.{Line, lettersOf, lineOf}
+use Rattle.lines.specs.Held.{lettersOf, lineOf}
 use Rattle.lines.specs.Joined.{evenLine, uneven, tooLong, strange}
 use Rattle.replacing.specs.Replaced.{requestOf, strangeRequest, outside}
 use Rattle.replacing.proofs.refused.Statement.{statement}

@@ -1,8 +1,6 @@
 -- What the functions behind the tests of `replace_letter` ask of a line in its frame, once it is tested: `Renewable`.
 -- Assumes nothing.
 use mathlib.Core.Path.{_≡_}
-use mathlib.Core.List.{List}
-use Prim.Native.Nat.{ℕ}
 use lib.ListN.{length}
 use Rattle.joining.specs.Joinable.{Joinable}
 use Rattle.lines.specs.Held.{Frame, Line}

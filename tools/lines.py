@@ -1,5 +1,6 @@
 """What tools/limits_join and tools/limits_replace share: the columns of a call on a line, document 01's refusals of them, what fresh joining
-gives, cases, and calls drawn at random and at the limits. A call is a dictionary of its columns by their names."""
+gives, cases, calls drawn at random and at the limits, and cases that a program has to tell from good ones. A call is a dictionary of its
+columns by their names."""
 
 import argparse
 import itertools
@@ -213,6 +214,41 @@ def compare_model(tool, stream, inputs, answer):
     sys.exit(1 if differ or not cases else 0)
 
 
+def wrong_answers(call, inputs, outputs, answer):
+    """Cases each of which has one column of the answer wrong: an element changed, one too many, one too few."""
+    right = answer(call)
+    for at, column in enumerate(right):
+        for wrong in ([*column[:-1], column[-1] ^ 1], [column[0] ^ 1, *column[1:]], [*column, 0], column[:-1]):
+            yield case(call, inputs, outputs, [*right[:at], wrong, *right[at + 1 :]])
+
+
+def wrong_forms(call, inputs, outputs, answer):
+    """Cases that are not of the form: a yes-or-no of 2, features that are not seven, single numbers that are none or two, a column of another
+    width, one that is missing, a byte left over, a body cut short."""
+    right = answer(call)
+    singles = [name for name in inputs if name not in (*LINE, *PRE, *POST, "features")]
+    features = call["features"]
+    changes = [{"mongolian": [2]}, {"features": features[:6]}, {"features": [*features, 0]}]
+    changes += [{name: call[name] * times} for name in singles for times in (0, 2)]
+    yield from (case(call | change, inputs, outputs, right) for change in changes)
+    for name in inputs:
+        yield case(call | {name: [0] * len(call[name])}, inputs | {name: 2}, outputs, right)
+        yield case(call, {other: width for other, width in inputs.items() if other != name}, outputs, right)
+    for name in outputs:
+        yield case(call, inputs, {other: width for other, width in outputs.items() if other != name}, [c for o, c in zip(outputs, right) if o != name])
+    body = case(call, inputs, outputs, right)[4:]
+    yield from (struct.pack(">I", len(other)) + other for other in (body + bytes(1), body[:-1], b""))
+
+
+def told(program, call, inputs, outputs, answer):
+    """What the program prints of cases that are wrong: how many there are of which it does not say so."""
+    command = subprocess.run([ROOT / "run", "--command", program], capture_output=True, text=True, check=True).stdout.split("\n")[:-1]
+    wrong = [(bad, f"case 0 differs\n{program}: 1 cases, 1 differ\n") for bad in wrong_answers(call, inputs, outputs, answer)]
+    wrong += [(bad, f"{program}: unreadable at case 0\n") for bad in wrong_forms(call, inputs, outputs, answer)]
+    untold = sum(subprocess.run(command, input=bad, stdout=subprocess.PIPE).stdout.decode() != said for bad, said in wrong)
+    return len(wrong), untold
+
+
 def main(tool, program, about, inputs, outputs, answer, worked, limits):
     """The `main` of a tool. `answer` is the model: the columns that come out of a call, in the order of `outputs`. `worked` draws the worked
     examples, to which the model is held whatever is asked for, and `limits` all other calls."""
@@ -228,4 +264,6 @@ def main(tool, program, about, inputs, outputs, answer, worked, limits):
     ran = subprocess.run([ROOT / "run", program], input=b"".join(cases), stdout=subprocess.PIPE)
     printed = ran.stdout.decode()
     print(f"{tool}: {printed.strip()} (seed {given.seed})")
-    sys.exit(0 if ran.returncode == 0 and printed == f"{program}: {len(cases)} cases, 0 differ\n" else 1)
+    tried, untold = told(program, examples[0], inputs, outputs, answer)
+    print(f"{tool}: {tried} cases with a wrong answer or of a wrong form, {untold} not told")
+    sys.exit(0 if ran.returncode == 0 and printed == f"{program}: {len(cases)} cases, 0 differ\n" and not untold else 1)

@@ -1,9 +1,13 @@
--- What the letters beside a place see of each other past the letter at the place: `seen-ahead`, `seen-back`.
+-- What the letters beside a place see of each other past the letter at the place (`seen-ahead`, `seen-back`), and what stands beyond a record that
+-- is there (`seen-beyond`).
 -- Assumes nothing.
 use mathlib.Core.Path.{_≡_, sym, _∙_}
+use mathlib.Core.Bool.{cond}
 use mathlib.Core.List.{List}
 use Prim.Native.Nat.{ℕ, _+_, _<_}
 use native.Mathlib.Omega.{arith}
+use borrow.Author.Tests.{lt-ltb}
+use lib.Dec.{ltb}
 use lib.ListN.{length, getD, take, drop}
 use Rattle.letters.specs.Types.{resolved}
 use Rattle.shapes.specs.Joining.{passed, latest, nearest, lineTypes}
@@ -11,6 +15,10 @@ use Rattle.shapes.specs.Places.{placeBefore, placeOf}
 use Rattle.shapes.proofs.JoiningLaws.{length-lineTypes, lineTypes-at}
 use Rattle.neighbours.proofs.NeighbourLaws.{nearest-here, latest-here, letter-across, letter-back}
 use Rattle.joining.specs.Joinable.{Joinable}
+
+-- a letter beyond the record at k, where there is such a record
+pub seen-beyond : (k n r x y : ℕ) → r ≡ cond (ltb k n) x y → k < n → r ≡ x
+seen-beyond k n r x y e h = e ∙ simp (lt-ltb k n h)
 
 module _ {types cats : List ℕ} (letters : Joinable types cats) (k t : ℕ) (h : k < length types) (e : t ≡ resolved (getD types k 0) (getD cats k 0)) where
   abbrev ts : List ℕ

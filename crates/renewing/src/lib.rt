@@ -117,10 +117,10 @@ fn renew(
     }
 }
 
-// The nearest letter before the record at `k`, if there is such a record.
+// The nearest letter before the record at `k`; where there is no such record, the one before the line, and nothing is walked.
 fn further_before(types: &[u8], cats: &[u8], k: usize, before: u8) -> u8
     requires { ⌜ Joinable (now types) (now cats) ⌝ }
-    ensures { λ r. ⌜ (k < length (now (types .entry)) → r ≡ latest before (take k (lineTypes (now (types .entry)) (now (cats .entry))))) ⌝ }
+    ensures { λ r. ⌜ r ≡ cond (ltb k (length (now (types .entry)))) (latest before (take k (lineTypes (now (types .entry)) (now (cats .entry))))) before ⌝ }
 {
     if k < types.len() {
         let q = neighbours::letter_before(types, cats, k, before);
@@ -129,10 +129,10 @@ fn further_before(types: &[u8], cats: &[u8], k: usize, before: u8) -> u8
     before
 }
 
-// The nearest letter behind the record at `k`, if there is such a record.
+// The nearest letter behind the record at `k`; where there is no such record, the one behind the line.
 fn further_behind(types: &[u8], cats: &[u8], k: usize, behind: u8) -> u8
     requires { ⌜ Joinable (now types) (now cats) ⌝ }
-    ensures { λ r. ⌜ (k < length (now (types .entry)) → r ≡ nearest (drop (k + 1) (lineTypes (now (types .entry)) (now (cats .entry)))) behind) ⌝ }
+    ensures { λ r. ⌜ r ≡ cond (ltb k (length (now (types .entry)))) (nearest (drop (k + 1) (lineTypes (now (types .entry)) (now (cats .entry)))) behind) behind ⌝ }
 {
     if k < types.len() {
         let n = neighbours::letter_from(types, cats, k + 1, behind);

@@ -7,7 +7,7 @@ use lib.ListN.{length, take, drop}
 use Rattle.shapes.specs.Joining.{latest, nearest, lineTypes}
 use Rattle.lines.specs.Held.{Frame, Line, frameBy, lineOf}
 use Rattle.renewing.proofs.HeldLaws.{renewed-held, line-touched}
-use Rattle.renewing.proofs.SeenLaws.{seen-ahead, seen-back}
+use Rattle.renewing.proofs.SeenLaws.{seen-beyond, seen-ahead, seen-back}
 use Rattle.renewing.proofs.refresh.Statement.{statement}
 use Rattle.renewing.proofs.refresh.Tie as tie
 
@@ -61,10 +61,10 @@ past-requires-2 : tie.Need-past-requires-2
 past-requires-2 c κs = search needs
 
 renew-requires : tie.Need-renew-requires
-renew-requires c κs = (c .before .before .before .before .before .before .before .before .before .before .before .before .before .before .before .pre .0, ((λ h. back (c .before .before)), c .before .before .before .before .further-behind .ensures))
+renew-requires c κs = (c .before .before .before .before .before .before .before .before .before .before .before .before .before .before .before .pre .0, ((λ h. back (c .before .before)), seen-beyond _ _ _ _ _ (c .before .before .before .before .further-behind .ensures)))
 
 renew-requires-2 : tie.Need-renew-requires-2
-renew-requires-2 c κs = (renewed-held (c .before .before .before .before .before .before .before .before .before .before .before .before .before .before .before .before .before .before .before .before .before .before .pre .0) _ _ (c .before .before .before .before .before .before .renew .ensures), (c .before .before .before .before .before .before .before .before .before .before .before .before .further-before .ensures, ahead (c .before .before .before .before .before .before .before .before .before)))
+renew-requires-2 c κs = (renewed-held (c .before .before .before .before .before .before .before .before .before .before .before .before .before .before .before .before .before .before .before .before .before .before .pre .0) _ _ (c .before .before .before .before .before .before .renew .ensures), (seen-beyond _ _ _ _ _ (c .before .before .before .before .before .before .before .before .before .before .before .before .further-before .ensures), ahead (c .before .before .before .before .before .before .before .before .before)))
 
 renew-requires-3 : tie.Need-renew-requires-3
 renew-requires-3 c κs =

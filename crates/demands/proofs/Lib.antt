@@ -5,3 +5,4 @@ pub mod JoiningHolds
 pub mod NamedLaws
 pub mod ProgramHolds
 pub mod ReplacingHolds
+pub mod WholeLaws

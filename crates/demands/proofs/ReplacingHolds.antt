@@ -14,8 +14,9 @@ use Rattle.renewing.proofs.RenewLaws.{length-renewed}
 use Rattle.replacing.proofs.AllowedLaws.{Allowed, allowed, left-replaced}
 use Rattle.replacing.proofs.CurrentLaws.{replaced-else, replaced-fresh, replaced-current}
 use Rattle.replacing.proofs.OrderLaws.{refusal-behind, left-order}
-use Rattle.demands.specs.Replacing.{OneAnswer, RefusedStays, SmallestNumber, Current, FreshCurrent, StaysCurrent, AfterAll, AlwaysCurrent, AltersNear, GetsFresh, ChangesLetter, EitherOrder}
+use Rattle.demands.specs.Replacing.{OneAnswer, RefusedStays, SmallestNumber, Current, FreshCurrent, StaysCurrent, AfterAll, AlwaysCurrent, AltersNear, GetsFresh, ChangesLetter, NoOther, EitherOrder}
 use Rattle.demands.proofs.NamedLaws.{named-touches, touches-named}
+use Rattle.demands.proofs.WholeLaws.{whole}
 
 pub one-answer : OneAnswer
 one-answer s q l r u m n = same-left r u m n (replaceAfter s q l)
@@ -60,6 +61,9 @@ alters-near s q l r m e z j =
 pub gets-fresh : GetsFresh
 gets-fresh s q l r m e z j =
     rw (left s q l r m e z) (λ n. replaced-fresh s q l (accepted s q l r m e z) j (named-touches (s .mongolian) _ _ (q .place) n))
+
+pub no-other : NoOther
+no-other s a l r m e z k new kept fresh = whole s a l (accepted s a l r m e z) k new kept fresh ∙ sym (left s a l r m e z)
 
 pub either-order : EitherOrder
 either-order s p q l d r u k m e f u′ r′ k′ m′ e′ f′ =

@@ -1,6 +1,6 @@
 -- What replacing a letter promises, of every line, by the call's statement (`Replacing` of crate replacing): `OneAnswer`, `RefusedStays`, `SmallestNumber`. Demand 3: `Current` that every record
 -- is as joining afresh gives; `FreshCurrent`, `StaysCurrent`, `AlwaysCurrent` that a line stays so; `Named` the records that a new letter can alter,
--- in plain words; `AltersNear`, `GetsFresh`, `ChangesLetter` what a replacement alters and what not; `EitherOrder` that two may change places.
+-- in plain words; `AltersNear`, `GetsFresh`, `ChangesLetter`, `NoOther` what a replacement alters and what not; `EitherOrder` that two may change places.
 -- Assumes nothing.
 use mathlib.Core.Path.{_≡_}
 use mathlib.Core.Bool.{Bool, true}
@@ -91,18 +91,24 @@ pub data Named (mongolian : Bool) (codes ts : List ℕ) (p : ℕ) : ℕ → Type
 abbrev pub NamedIn : Setting → Line → ℕ → ℕ → Type 0
 NamedIn s l = Named (s .mongolian) (l .codes) (typesOf (l .letters))
 
+-- the line m has the action and the mask of the line l at each record that is not named
+abbrev pub Kept : Setting → Request → Line → Line → Type 0
+Kept s a l m =
+    (j : ℕ) → (NamedIn s m (a .place) j → ⊥) → (getD (m .actions) j 0 ≡ getD (l .actions) j 0) × (getD (m .masks) j 0 ≡ getD (l .masks) j 0)
+
+-- and at each that is named, those that joining its letters afresh gives
+abbrev pub Renewed : Setting → Request → Line → Type 0
+Renewed s a m =
+    (j : ℕ) → NamedIn s m (a .place) j
+    → (getD (m .actions) j 0 ≡ getD (joinedLine s m .actions) j 0) × (getD (m .masks) j 0 ≡ getD (joinedLine s m .masks) j 0)
+
 -- A replacement alters the action and the mask of no other record, by the letters and codes that the line has then.
 abbrev pub AltersNear : Type 0
-AltersNear =
-    (s : Setting) (a : Request) (l : Line) (r : Verdict) (m : Line) → Replacing s a l r m → said r ≡ 0
-    → (j : ℕ) → (NamedIn s m (a .place) j → ⊥) → (getD (m .actions) j 0 ≡ getD (l .actions) j 0) × (getD (m .masks) j 0 ≡ getD (l .masks) j 0)
+AltersNear = (s : Setting) (a : Request) (l : Line) (r : Verdict) (m : Line) → Replacing s a l r m → said r ≡ 0 → Kept s a l m
 
 -- Those records get the action and the mask that joining the line's new letters afresh gives, whatever they had.
 abbrev pub GetsFresh : Type 0
-GetsFresh =
-    (s : Setting) (a : Request) (l : Line) (r : Verdict) (m : Line) → Replacing s a l r m → said r ≡ 0
-    → (j : ℕ) → NamedIn s m (a .place) j
-    → (getD (m .actions) j 0 ≡ getD (joinedLine s m .actions) j 0) × (getD (m .masks) j 0 ≡ getD (joinedLine s m .masks) j 0)
+GetsFresh = (s : Setting) (a : Request) (l : Line) (r : Verdict) (m : Line) → Replacing s a l r m → said r ≡ 0 → Renewed s a m
 
 -- what a replacement does to the other columns
 pub record NewLetter (a : Request) (l m : Line) : Type 0 where
@@ -116,6 +122,12 @@ pub record NewLetter (a : Request) (l m : Line) : Type 0 where
 -- Code, type and category change at the place alone; base masks never do; no column grows or shrinks.
 abbrev pub ChangesLetter : Type 0
 ChangesLetter = (s : Setting) (a : Request) (l : Line) (r : Verdict) (m : Line) → Replacing s a l r m → said r ≡ 0 → NewLetter a l m
+
+-- These three leave no room: a line that has what they promise is the one that the call leaves.
+abbrev pub NoOther : Type 0
+NoOther =
+    (s : Setting) (a : Request) (l : Line) (r : Verdict) (m : Line) → Replacing s a l r m → said r ≡ 0
+    → (k : Line) → NewLetter a l k → Kept s a l k → Renewed s a k → k ≡ m
 
 -- Two requests for different places leave the same line in either order, and each is answered alike, accepted or refused. The line need not be current.
 abbrev pub EitherOrder : Type 0

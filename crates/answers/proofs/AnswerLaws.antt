@@ -19,7 +19,8 @@ use Rattle.texts.specs.declared.Told.the-variants.{Unreadable, Lines}
 use Rattle.texts.specs.Form.{codesOf, widthsOf, kindsOf, categoriesOf, lines, says, readable, leading, entries, last, told, Closed, Close, whole}
 use Rattle.laws.specs.Rows.{Given, first}
 use Rattle.shapes.specs.Joining.{lineTypes, actionsOf}
-use Rattle.lines.specs.Held.{Setting, Line, After, lettersOf, settingOf, lineOf}
+use Rattle.refusals.specs.Left.{After}
+use Rattle.lines.specs.Held.{Setting, Line, lettersOf, settingOf, lineOf}
 use Rattle.lines.specs.Joined.{knownLetters, refusal, joinedLine, joinAfter}
 use Rattle.printing.specs.Printed.{printed, unreadableText, refusedText}
 use Rattle.printing.specs.Writing.{Written, Wrote, filled}

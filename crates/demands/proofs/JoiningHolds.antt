@@ -6,7 +6,7 @@ use Rattle.shapes.proofs.LocalityLaws.{each-between}
 use Rattle.shapes.proofs.UnicodeLaws.{form-unicode, actions-unicode}
 use Rattle.refusals.specs.Numbers.{said}
 use Rattle.lines.specs.Joined.{joinRows, refusal, joinedLine, joinAfter}
-use Rattle.lines.proofs.LineLaws.{same-left, left-stays, left-smallest, left-accepted}
+use Rattle.refusals.proofs.LeftLaws.{same-left, left-stays, left-smallest, left-accepted}
 use Rattle.demands.specs.Joining.{UnicodeLetter, UnicodeLine, Local, OneAnswer, RefusedStays, SmallestNumber, AcceptedJoins}
 
 pub unicode-letter : UnicodeLetter

@@ -8,7 +8,7 @@ use Rattle.refusals.specs.declared.Verdict.{Verdict}
 use Rattle.refusals.proofs.VerdictLaws.{same-said}
 use Rattle.lines.specs.Held.{Setting, Line}
 use Rattle.lines.specs.Joined.{refusal, frameOf, joinedLine}
-use Rattle.lines.proofs.LineLaws.{same-left, left-number, left-stays, left-smallest, left-accepted}
+use Rattle.refusals.proofs.LeftLaws.{same-left, left-number, left-stays, left-smallest, left-accepted}
 use Rattle.replacing.specs.Replaced.{Request, replacedLine, replaceRows, replaceRefusal, replaceAfter, Replacing}
 use Rattle.renewing.proofs.RenewLaws.{length-renewed}
 use Rattle.replacing.proofs.AllowedLaws.{Allowed, allowed, left-replaced}

@@ -1,18 +1,13 @@
--- What is known of a line that is not refused (`accepted`, `no-row`); then of every call on a line: what it leaves where it is refused and where it is not, and that
--- its statement allows one answer and one line (`same-left`). And of lines: as many fresh actions as letters; lines that differ in actions and masks alone.
+-- What is known of a line that is not refused (`accepted`, `no-row`). And of lines: as many fresh actions as letters; lines that differ in actions and masks alone.
 -- Assumes nothing.
-use mathlib.Core.Path.{_≡_, refl, sym, ap, _∙_}
+use mathlib.Core.Path.{_≡_, sym, _∙_}
 use mathlib.Core.Bool.{Bool, true, false, cond, _&&_, and-eq-true-iff}
 use mathlib.Core.List.{List, [], _∷_}
-use Prim.Native.Nat.{ℕ, _<_, _≤_}
-use borrow.Author.Tests.{eqb-true, eqb-false, eq-eqb, ne-eqb, not-false}
-use lib.Dec.{eqb}
+use Prim.Native.Nat.{ℕ}
+use borrow.Author.Tests.{eqb-true, not-false}
 use lib.ListN.{length}
-use Rattle.laws.specs.Rows.{Row, Given, Has, first}
-use Rattle.laws.proofs.RowLaws.{rise, first-none, first-given, first-applies, first-smallest}
-use Rattle.refusals.specs.declared.Verdict.{Verdict}
-use Rattle.refusals.specs.Numbers.{said}
-use Rattle.refusals.proofs.VerdictLaws.{same-said}
+use Rattle.laws.specs.Rows.{Given}
+use Rattle.laws.proofs.RowLaws.{first-none}
 use Rattle.refusals.specs.Columns.{atMost}
 use Rattle.letters.specs.Types.{X}
 use Rattle.letters.specs.Categories.{Zs}
@@ -21,7 +16,7 @@ use Rattle.shapes.proofs.JoiningLaws.{length-each}
 use Rattle.selectors.specs.Selectors.{settled}
 use Rattle.selectors.proofs.SelectorLaws.{length-settled}
 use Rattle.joining.specs.Joinable.{Joinable}
-use Rattle.lines.specs.Held.{Letters, Setting, Frame, Line, Left, After, leaves}
+use Rattle.lines.specs.Held.{Letters, Setting, Frame, Line}
 use Rattle.lines.specs.Joined.{typesOf, freshActions, sized, evenLetters, evenLine, knownLetters, uneven, tooLong, strange, refusal}
 
 -- two tests that both passed
@@ -83,51 +78,6 @@ accepted s l h =
     let uneven-not = first-none 0 (uneven (evenLine l) (s .pre) (s .post)) (Given 2 long ∷ Given 3 odd ∷ []) h in
     let long-not = first-none 1 long (Given 3 odd ∷ []) (uneven-not .1) in
     no-row s l (uneven-not .0) (first-none 2 odd [] (long-not .1) .0)
-
--- what a call leaves, by the number that its tests give
-pub left-refused : (k : ℕ) (old new : Line) (n : ℕ) → n ≡ k → (n ≡ 0 → ⊥) → After n old ≡ leaves k old new
-left-refused k old new n e d = simp (ne-eqb k 0 (λ z. d (e ∙ z))) (ap (λ (i : ℕ). After i old) e)
-
-pub left-done : (k : ℕ) (old new : Line) (n : ℕ) (m : Line) → n ≡ k → n ≡ 0 → m ≡ new → After n m ≡ leaves k old new
-left-done k old new n m e z j = simp (eq-eqb k 0 (sym e ∙ z)) (rw (z, j))
-
-abbrev numberLeft : Left → ℕ
-numberLeft (After n l) = n
-
-abbrev lineLeft : Left → Line
-lineLeft (After n l) = l
-
--- one statement, one answer and one line
-pub same-left : (r q : Verdict) (l m : Line) (x : Left) → After (said r) l ≡ x → After (said q) m ≡ x → (r ≡ q) × (l ≡ m)
-same-left r q l m x e f =
-    let g = e ∙ sym f in
-    (same-said r q (ap numberLeft g), ap lineLeft g)
-
--- what a statement allows: a refusal with the line as it was, or 0 with the new one
-module _ (k : ℕ) (old new : Line) (n : ℕ) (m : Line) where
-  left-cases : After n m ≡ leaves k old new → (n ≡ k) × ((n ≡ 0 → ⊥) → m ≡ old) × (n ≡ 0 → m ≡ new)
-  left-cases = go (eqb k 0) refl
-    where
-      go : (b : Bool) → eqb k 0 ≡ b → After n m ≡ cond b (After 0 new) (After k old) → (n ≡ k) × ((n ≡ 0 → ⊥) → m ≡ old) × (n ≡ 0 → m ≡ new)
-      go true z e = (ap numberLeft e ∙ sym (eqb-true k 0 z), λ d. absurd (d (ap numberLeft e)), λ _. ap lineLeft e)
-      go false z e = (ap numberLeft e, λ _. ap lineLeft e, λ d. absurd (eqb-false k 0 z (sym (ap numberLeft e) ∙ d)))
-
-  pub left-number : After n m ≡ leaves k old new → n ≡ k
-  left-number e = left-cases e .0
-
-  pub left-stays : After n m ≡ leaves k old new → (n ≡ 0 → ⊥) → m ≡ old
-  left-stays e = left-cases e .1
-
-  pub left-accepted : After n m ≡ leaves k old new → n ≡ 0 → m ≡ new
-  left-accepted e = left-cases e .2
-
--- the number given is that of a row that applies, and none of a smaller number does
-pub left-smallest :
-    (rows : List Row) → rise 0 rows ≡ true → (old new : Line) (n : ℕ) (m : Line) → After n m ≡ leaves (first rows) old new
-    → ((n ≡ 0 → ⊥) → Has rows n true) × ((k : ℕ) → Has rows k true → (0 < n) × (n ≤ k))
-left-smallest rows up old new n m e =
-    let same : n ≡ first rows = left-number (first rows) old new n m e in
-    (λ d. rw same (first-applies rows (λ z. d (same ∙ z))), λ k h. rw same (first-given 0 up h, first-smallest 0 up h))
 
 -- ---- fresh actions
 pub length-fresh : (f : Frame) (l : Line) → length (freshActions f l) ≡ length (typesOf (l .letters))

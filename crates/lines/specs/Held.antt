@@ -1,10 +1,9 @@
 -- A held line and what it stands in: `Letters` the types of letters as they are lent; `Setting` all that a line is joined by; `Frame` what
--- a setting comes to; `Line` a line's columns; `Left`, `leaves` what a call leaves of it; `lettersOf`, `settingOf`, `frameBy`, `lineOf` these from the parameters of a call.
+-- a setting comes to; `Line` a line's columns; `lettersOf`, `settingOf`, `frameBy`, `lineOf` these from the parameters of a call.
 -- Assumes nothing.
-use mathlib.Core.Bool.{Bool, cond}
+use mathlib.Core.Bool.{Bool}
 use mathlib.Core.List.{List}
 use Prim.Native.Nat.{ℕ}
-use lib.Dec.{eqb}
 
 -- letters, by a column of types and its column of categories
 pub record Letters : Type 0 where
@@ -32,14 +31,6 @@ pub record Line : Type 0 where
   pub base : List ℕ
   pub actions : List ℕ
   pub masks : List ℕ
-
--- the number that a call gives, 0 if it is accepted, and the line afterwards
-pub data Left : Type 0 where
-  After : (number : ℕ) → (line : Line) → Left
-
--- a call that a number refuses leaves the line as it was; one that 0 accepts leaves a new one
-abbrev pub leaves : ℕ → Line → Line → Left
-leaves number old new = cond (eqb number 0) (After 0 new) (After number old)
 
 abbrev pub lettersOf : List ℕ → List ℕ → Letters
 lettersOf types categories = record { types = types; categories = categories }

@@ -1,5 +1,5 @@
 -- Joining a line (document 01, "Joining"): `typesOf`, `frameOf`, `actionsBetween`, `freshActions`, `freshLine`, `joinedLine` what joining gives; `sized`, `evenLetters`, `evenLine`,
--- `limited`, `knownLetters` what is asked of a line and its contexts; `lineLimit`, `contextLimit` how long they may be; `uneven`, `tooLong`, `strange`, `refusalRows`,
+-- `limited`, `knownLetters` what is asked of a line and its contexts; `contextLimit` how long a context may be; `uneven`, `tooLong`, `strange`, `refusalRows`,
 -- `joinRows`, `refusal` when joining is refused, and with which number; `joinAfter`, `Joining` what the call answers and leaves, of every input.
 -- Assumes nothing.
 use mathlib.Core.Path.{_≡_}
@@ -11,13 +11,14 @@ use lib.ListN.{length}
 use Rattle.laws.specs.Rows.{Row, Given, first}
 use Rattle.refusals.specs.declared.Verdict.{Verdict}
 use Rattle.refusals.specs.Numbers.{said}
-use Rattle.refusals.specs.Columns.{atMost}
+use Rattle.refusals.specs.Columns.{lineLimit, atMost}
+use Rattle.refusals.specs.Left.{Left, After, leaves}
 use Rattle.letters.specs.Types.{U, X}
 use Rattle.letters.specs.Categories.{Zs}
 use Rattle.shapes.specs.Joining.{form, nearest, eachBetween, lineTypes}
 use Rattle.selectors.specs.Selectors.{settled}
 use Rattle.masks.specs.Masks.{masks}
-use Rattle.lines.specs.Held.{Letters, Setting, Frame, Line, Left, After, leaves, frameBy}
+use Rattle.lines.specs.Held.{Letters, Setting, Frame, Line, frameBy}
 
 -- the types that letters have in the end
 abbrev pub typesOf : Letters → List ℕ
@@ -73,10 +74,7 @@ limited most letters = leb (length (letters .types)) most
 abbrev pub knownLetters : Letters → Bool
 knownLetters letters = atMost X (letters .types) && atMost Zs (letters .categories)
 
--- "a line has over 4,096 records, a context over 64"
-abbrev pub lineLimit : ℕ
-lineLimit = 4096
-
+-- "a context over 64"
 abbrev pub contextLimit : ℕ
 contextLimit = 64
 
@@ -105,7 +103,7 @@ unfoldable pub refusal : Setting → Line → ℕ
 refusal s l = first (joinRows s l)
 
 -- the call: a refusal gives its number and leaves the line as it was
-abbrev pub joinAfter : Setting → Line → Left
+abbrev pub joinAfter : Setting → Line → Left Line
 joinAfter s l = leaves (refusal s l) l (joinedLine s l)
 
 -- the statement of `join_line`: in the setting s, on the line l, it may answer r and leave the line m

@@ -12,9 +12,7 @@ use letters::JoiningType;
 use refusals::Refusal;
 use refusals::Verdict;
 
-// Records of a line, and letters of a context, at most.
-const LINE_LIMIT: usize = 4096;
-
+// Letters of a context, at most.
 const CONTEXT_LIMIT: usize = 64;
 
 // Each type is one of the eight, each category one of the thirty.
@@ -54,7 +52,7 @@ pub fn refused(
 {
     let even = line_even
         & ((pre_types.len() == pre_cats.len()) & (post_types.len() == post_cats.len()));
-    let short = (types.len() <= LINE_LIMIT)
+    let short = (types.len() <= refusals::LINE_LIMIT)
         & ((pre_types.len() <= CONTEXT_LIMIT) & (post_types.len() <= CONTEXT_LIMIT));
     let known = known_letters(types, cats)
         & (known_letters(pre_types, pre_cats) & known_letters(post_types, post_cats));

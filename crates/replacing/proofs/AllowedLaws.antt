@@ -14,14 +14,16 @@ use Rattle.laws.specs.Rows.{Given}
 use Rattle.laws.proofs.RowLaws.{first-none}
 use Rattle.laws.proofs.TestLaws.{neither}
 use Rattle.refusals.specs.Columns.{atMost}
+use Rattle.refusals.specs.Left.{After}
 use Rattle.refusals.proofs.ColumnLaws.{atMost-at, atMost-all, atMost-set}
+use Rattle.refusals.proofs.LeftLaws.{left-number, left-stays, left-accepted}
 use Rattle.letters.specs.Types.{X}
 use Rattle.letters.specs.Categories.{Zs}
 use Rattle.letters.specs.Actions.{repeating}
 use Rattle.shapes.proofs.JoiningLaws.{length-lineTypes}
-use Rattle.lines.specs.Held.{Setting, Line, After}
+use Rattle.lines.specs.Held.{Setting, Line}
 use Rattle.lines.specs.Joined.{typesOf, frameOf, freshActions, evenLine, knownLetters, uneven, tooLong, strange}
-use Rattle.lines.proofs.LineLaws.{Accepted, no-row, left-number, left-stays, left-accepted}
+use Rattle.lines.proofs.LineLaws.{Accepted, no-row}
 use Rattle.renewing.specs.Renewed.{touched, renewed}
 use Rattle.renewing.specs.Renewable.{Renewable}
 use Rattle.replacing.specs.Replaced.{Request, changed, replacedLine, strangeRequest, outside, replaceRefusal, replaceAfter}

@@ -11,7 +11,8 @@ use lib.Dec.{eqb}
 use lib.ListN.{length, getD}
 use lib.Seq.{set-comm}
 use Rattle.masks.specs.Masks.{masks}
-use Rattle.lines.specs.Held.{Setting, Frame, Line, After}
+use Rattle.refusals.specs.Left.{After}
+use Rattle.lines.specs.Held.{Setting, Frame, Line}
 use Rattle.lines.specs.Joined.{typesOf, frameOf, freshActions}
 use Rattle.lines.proofs.LineLaws.{same-line}
 use Rattle.renewing.specs.Renewed.{touched, renewed}

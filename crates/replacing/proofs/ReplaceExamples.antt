@@ -9,7 +9,8 @@ use Rattle.letters.specs.Categories.{Cf, Lo, Lu, Mn}
 use Rattle.letters.specs.Actions.{isol, fina, medi, init, none}
 use Rattle.shapes.specs.Joining.{form}
 use Rattle.masks.specs.Masks.{mask}
-use Rattle.lines.specs.Held.{settingOf, lineOf, After}
+use Rattle.refusals.specs.Left.{After}
+use Rattle.lines.specs.Held.{settingOf, lineOf}
 use Rattle.replacing.specs.Replaced.{requestOf, replaceRefusal, replaceAfter}
 
 -- a bit for each of the seven features

@@ -12,10 +12,11 @@ use Rattle.laws.specs.Rows.{Row, Given, first}
 use Rattle.refusals.specs.declared.Verdict.{Verdict}
 use Rattle.refusals.specs.Numbers.{said}
 use Rattle.refusals.specs.Columns.{atMost}
+use Rattle.refusals.specs.Left.{Left, After, leaves}
 use Rattle.letters.specs.Types.{X}
 use Rattle.letters.specs.Categories.{Zs}
 use Rattle.letters.specs.Actions.{repeating}
-use Rattle.lines.specs.Held.{Setting, Frame, Line, Left, After, leaves, lettersOf}
+use Rattle.lines.specs.Held.{Setting, Frame, Line, lettersOf}
 use Rattle.lines.specs.Joined.{frameOf, evenLine, uneven, tooLong, strange}
 use Rattle.renewing.specs.Renewed.{touched, renewedLine}
 
@@ -65,7 +66,7 @@ unfoldable pub replaceRefusal : Setting → Request → Line → ℕ
 replaceRefusal s r l = first (replaceRows s r l)
 
 -- the call: a refusal gives its number and leaves the line as it was
-abbrev pub replaceAfter : Setting → Request → Line → Left
+abbrev pub replaceAfter : Setting → Request → Line → Left Line
 replaceAfter s r l = leaves (replaceRefusal s r l) l (replacedLine (frameOf s) r l)
 
 -- the statement of `replace_letter`: in the setting s, asked for r on the line l, it may answer v and leave the line m

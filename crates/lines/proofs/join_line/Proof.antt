@@ -7,7 +7,7 @@ use Rattle.laws.specs.Rows.{first}
 use Rattle.refusals.specs.Numbers.{said}
 use Rattle.lines.specs.Held.{Setting, Line, settingOf, lineOf}
 use Rattle.lines.specs.Joined.{refusalRows, refusal, joinedLine}
-use Rattle.lines.proofs.LineLaws.{left-refused, left-done}
+use Rattle.refusals.proofs.LeftLaws.{left-refused, left-done}
 use Rattle.lines.proofs.join_line.Statement.{statement}
 use Rattle.lines.proofs.join_line.Tie as tie
 

@@ -6,8 +6,9 @@ use mathlib.Core.List.{[], _∷_}
 use borrow.Author.Needs.{needs}
 use Rattle.laws.specs.Rows.{Given, first, sooner}
 use Rattle.laws.proofs.RowLaws.{sooner-first}
+use Rattle.refusals.specs.Columns.{lineLimit}
 use Rattle.lines.specs.Held.{lettersOf}
-use Rattle.lines.specs.Joined.{evenLetters, lineLimit, contextLimit, limited, knownLetters}
+use Rattle.lines.specs.Joined.{evenLetters, contextLimit, limited, knownLetters}
 use Rattle.lines.proofs.refused.Statement.{statement}
 use Rattle.lines.proofs.refused.Tie as tie
 

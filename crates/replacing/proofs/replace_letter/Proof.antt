@@ -3,9 +3,9 @@
 use mathlib.Core.Path.{_≡_, sym, _∙_}
 use borrow.Author.Needs.{needs}
 use Rattle.refusals.specs.Numbers.{said}
+use Rattle.refusals.proofs.LeftLaws.{left-refused, left-done}
 use Rattle.lines.specs.Held.{Setting, Line, settingOf, lineOf}
 use Rattle.lines.specs.Joined.{frameOf}
-use Rattle.lines.proofs.LineLaws.{left-refused, left-done}
 use Rattle.replacing.specs.Replaced.{Request, requestOf, replacedLine, replaceRefusal}
 use Rattle.replacing.proofs.replace_letter.Statement.{statement}
 use Rattle.replacing.proofs.replace_letter.Tie as tie

@@ -1,0 +1,3 @@
+-- What the contracts of `blocks` cite, and those of `marks`.
+-- Assumes nothing.
+pub mod Marks

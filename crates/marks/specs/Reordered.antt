@@ -1,0 +1,105 @@
+-- The call that reorders marks: `Request` what is asked for; `Columns` what is lent; `Outcome` what is there afterwards; `part`, `newPart`, `reordered`, `rangesOf` what reordering
+-- gives; `reorderRows`, `reorderRefusal` when it is refused, and with which number; `listed`, `numberSaid`, `rangesSaid` what an answer says; `reorderAfter`, `Reordering` what the call answers
+-- and leaves, of every input.
+-- Assumes nothing.
+use mathlib.Core.Path.{_≡_}
+use mathlib.Core.Bool.{Bool, not, _&&_}
+use mathlib.Core.List.{List, [], _∷_, _++_}
+use Prim.Native.Nat.{ℕ}
+use lib.Dec.{eqb, leb}
+use lib.ListN.{length, take, drop}
+use lib.Seq.{slice}
+use Rattle.laws.specs.Rows.{Row, Given, first}
+use Rattle.refusals.specs.Numbers.{numberOf}
+use Rattle.refusals.specs.Columns.{lineLimit}
+use Rattle.refusals.specs.Left.{Left, After, leaves}
+use Rattle.blocks.specs.Marks.{Mark, marks, codesOf, classesOf}
+use Rattle.marks.specs.Passes.{Span, Over, reorderClasses, newClass, passes, ranges}
+use Rattle.marks.specs.declared.Range.{Range}
+use Rattle.marks.specs.declared.Merged.{Merged}
+use Rattle.marks.specs.declared.Merged.the-variants.{Nothing, One, Two}
+use Rattle.marks.specs.declared.Answer.{Answer}
+use Rattle.marks.specs.declared.Answer.the-variants.{Reordered, Refused}
+
+-- the part from start to end, and the two lent class numbers
+pub record Request : Type 0 where
+  pub start : ℕ
+  pub end : ℕ
+  pub low : ℕ
+  pub high : ℕ
+
+-- a line's columns of codes and of classes
+pub record Columns : Type 0 where
+  pub codes : List ℕ
+  pub classes : List ℕ
+
+-- the ranges that the call answers, and the columns afterwards
+pub record Outcome : Type 0 where
+  pub ranges : List Span
+  pub columns : Columns
+
+abbrev pub requestOf : ℕ → ℕ → ℕ → ℕ → Request
+requestOf start end low high = record { start = start; end = end; low = low; high = high }
+
+abbrev pub columnsOf : List ℕ → List ℕ → Columns
+columnsOf codes classes = record { codes = codes; classes = classes }
+
+abbrev pub outcome : List Span → Columns → Outcome
+outcome ranges columns = record { ranges = ranges; columns = columns }
+
+-- a line's marks; those from start to end, and these after the passes
+abbrev pub line : Columns → List Mark
+line c = marks (c .codes) (c .classes)
+
+abbrev pub part : Request → Columns → List Mark
+part q c = slice (q .start) (q .end) (line c)
+
+abbrev pub newPart : Request → Columns → List Mark
+newPart q c = passes (newClass (q .low) (q .high)) reorderClasses (part q c)
+
+-- the line with its part reordered: "The code and class columns move alike"
+abbrev pub newLine : Request → Columns → List Mark
+newLine q c = take (q .start) (line c) ++ (newPart q c ++ drop (q .end) (line c))
+
+abbrev pub reordered : Request → Columns → Columns
+reordered q c = columnsOf (codesOf (newLine q c)) (classesOf (newLine q c))
+
+abbrev pub rangesOf : Request → Columns → List Span
+rangesOf q c = ranges (q .start) reorderClasses (part q c)
+
+-- the rows of document 01's table that reordering uses, for two columns of n and m records, and the number that it is refused with, 0 if it is not
+abbrev pub reorderRows : ℕ → ℕ → ℕ → ℕ → List Row
+reorderRows n m start end =
+    Given 1 (not (eqb n m)) ∷
+    Given 2 (not (leb n lineLimit)) ∷
+    -- "a range with start above end or end above the length"
+    Given 4 (not (leb start end && leb end n)) ∷
+    []
+
+unfoldable pub reorderRefusal : Request → Columns → ℕ
+reorderRefusal q c = first (reorderRows (length (c .codes)) (length (c .classes)) (q .start) (q .end))
+
+-- what an answer says: "The answer lists the ranges .., at most two"; a refusal has its number and no range
+abbrev pub span : Range → Span
+span r = Over (r .from) (r .to)
+
+abbrev pub listed : Merged → List Span
+listed Nothing = []
+listed (One a) = span a ∷ []
+listed (Two a b) = span a ∷ span b ∷ []
+
+abbrev pub numberSaid : Answer → ℕ
+numberSaid (Reordered m) = 0
+numberSaid (Refused k) = numberOf k
+
+abbrev pub rangesSaid : Answer → List Span
+rangesSaid (Reordered m) = listed m
+rangesSaid (Refused k) = []
+
+-- the call: a refusal gives its number, no range, and leaves the columns as they were
+abbrev pub reorderAfter : Request → Columns → Left Outcome
+reorderAfter q c = leaves (reorderRefusal q c) (outcome [] c) (outcome (rangesOf q c) (reordered q c))
+
+-- the statement of `reorder_modifier_combining_marks`: asked for q on the columns c, it may answer r and leave the columns d
+abbrev pub Reordering : Request → Columns → Answer → Columns → Type 0
+Reordering q c r d = After (numberSaid r) (outcome (rangesSaid r) d) ≡ reorderAfter q c

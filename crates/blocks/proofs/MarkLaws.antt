@@ -22,6 +22,9 @@ marks-at (c ∷ cs) [] i d h e = absurd (omega arith)
 marks-at (c ∷ cs) (k ∷ ks) zero d h e = refl
 marks-at (c ∷ cs) (k ∷ ks) (suc i) d h e = marks-at cs ks i d (omega arith) (omega arith)
 
+pub class-at : (cs ks : List ℕ) (i : ℕ) → i < length cs → length cs ≡ length ks → getD (marks cs ks) i nothing .class ≡ getD ks i 0
+class-at cs ks i h e = ap (λ (m : Mark). m .class) (marks-at cs ks i nothing h e)
+
 pub marks-set : (cs ks : List ℕ) (i x y : ℕ) → marks (set cs i x) (set ks i y) ≡ set (marks cs ks) i (mark x y)
 marks-set [] ks i x y = refl
 marks-set (c ∷ cs) [] zero x y = refl

@@ -9,8 +9,8 @@ use Prim.Native.Nat.{ℕ, _+_, _≤_, _<_}
 use native.Mathlib.Omega.{arith}
 use borrow.Author.Tests.{ne-eqb, le-ltb, eqb-true, eqb-false, ltb-true, ltb-false}
 use lib.Dec.{eqb, ltb}
-use lib.ListN.{length, length-append}
-use Rattle.blocks.specs.Marks.{Mark, codesOf, numbered}
+use lib.ListN.{length, length-append, length-map}
+use Rattle.blocks.specs.Marks.{Mark, codesOf, renumber, numbered}
 use Rattle.marks.specs.Modifiers.{modifier}
 use Rattle.marks.specs.Passes.{front, behind, smaller, moves, skipped, block, others, reorderClasses, newClass, passes}
 use Rattle.marks.specs.Utr53.{Least, Rising, those, ofClass, isModifier, lead, without, toBeginning, utr53, arranged}
@@ -203,29 +203,72 @@ those-append p (m ∷ x) y = go (p m) (those-append p x y)
     go false q = q
 
 -- ---- any marks: nothing is lost or doubled
--- how many marks have a code that passes a test
-abbrev number : (ℕ → Bool) → List Mark → ℕ
-number p l = length (those (λ m. p (m .code)) l)
+-- a test of codes, as one of marks
+abbrev pub byCode : (ℕ → Bool) → Mark → Bool
+byCode p m = p (m .code)
+
+-- it passes whatever the class
+those-numbered : (p : ℕ → Bool) (k : ℕ) (l : List Mark) → those (byCode p) (numbered k l) ≡ numbered k (those (byCode p) l)
+those-numbered p k [] = refl
+those-numbered p k (m ∷ l) = go (p (m .code)) (those-numbered p k l)
+  where
+    go :
+        (t : Bool) → those (byCode p) (numbered k l) ≡ numbered k (those (byCode p) l)
+        → cond t (renumber k m ∷ those (byCode p) (numbered k l)) (those (byCode p) (numbered k l)) ≡ numbered k (cond t (m ∷ those (byCode p) l) (those (byCode p) l))
+    go true q = ap (λ (x : List Mark). renumber k m ∷ x) q
+    go false q = q
+
+-- how many marks pass it
+abbrev pub number : (ℕ → Bool) → List Mark → ℕ
+number p l = length (those (byCode p) l)
 
 number-append : (p : ℕ → Bool) (x y : List Mark) → number p (x ++ y) ≡ number p x + number p y
-number-append p x y = ap length (those-append (λ m. p (m .code)) x y) ∙ length-append (those (λ m. p (m .code)) x) (those (λ m. p (m .code)) y)
-
-number-numbered : (p : ℕ → Bool) (k : ℕ) (l : List Mark) → number p (numbered k l) ≡ number p l
-number-numbered p k [] = refl
-number-numbered p k (m ∷ l) = go (p (m .code)) (number-numbered p k l)
-  where
-    go : (t : Bool) → number p (numbered k l) ≡ number p l → length (cond t (record { code = m .code; class = k } ∷ those (λ m. p (m .code)) (numbered k l)) (those (λ m. p (m .code)) (numbered k l))) ≡ length (cond t (m ∷ those (λ m. p (m .code)) l) (those (λ m. p (m .code)) l))
-    go true q = rw q
-    go false q = q
+number-append p x y = rw (those-append (byCode p) x y) (length-append (those (byCode p) x) (those (byCode p) y))
 
 number-pass : (p : ℕ → Bool) (c : ℕ) (l : List Mark) → number p (block c l) + number p (others c l) ≡ number p l
 number-pass p c l =
     let b = behind (moves c) (behind (smaller c) l) in
-    let whole = ap (number p) (pass-parts c l) in
-    omega (arith, whole, number-append p (skipped c l) (block c l ++ b), number-append p (block c l) b, number-append p (skipped c l) b)
+    omega (arith, ap (number p) (pass-parts c l), number-append p (skipped c l) (block c l ++ b), number-append p (block c l) b, number-append p (skipped c l) b)
 
 pub number-passes : (p : ℕ → Bool) (new : ℕ → ℕ) (cs : List ℕ) (l : List Mark) → number p (passes new cs l) ≡ number p l
 unfolding passes
 number-passes p new [] l = refl
 number-passes p new (c ∷ cs) l =
-    number-append p (numbered (new c) (block c l)) (passes new cs (others c l)) ∙ ap₂ (λ (i j : ℕ). i + j) (number-numbered p (new c) (block c l)) (number-passes p new cs (others c l)) ∙ number-pass p c l
+    let moved : number p (numbered (new c) (block c l)) ≡ number p (block c l) = rw (those-numbered p (new c) (block c l)) (length-map (those (byCode p) (block c l)) (renumber (new c))) in
+    omega (arith, number-append p (numbered (new c) (block c l)) (passes new cs (others c l)), moved, number-passes p new cs (others c l), number-pass p c l)
+
+-- all of them
+those-all : (l : List Mark) → those (byCode (λ _. true)) l ≡ l
+those-all [] = refl
+those-all (m ∷ l) = ap (λ (x : List Mark). m ∷ x) (those-all l)
+
+pub length-passes : (new : ℕ → ℕ) (cs : List ℕ) (l : List Mark) → length (passes new cs l) ≡ length l
+length-passes new cs l = ap length (sym (those-all (passes new cs l))) ∙ number-passes (λ _. true) new cs l ∙ ap length (those-all l)
+
+-- ---- any marks: what is no modifier stays
+abbrev pub plain : ℕ → Bool
+plain code = not (modifier code)
+
+plain-block : (c : ℕ) (l : List Mark) → those (byCode plain) (front (moves c) l) ≡ []
+unfolding moves
+plain-block c [] = refl
+plain-block c (m ∷ l) = go (ofClass c m) (isModifier m) refl (plain-block c l)
+  where
+    go :
+        (t u : Bool) → isModifier m ≡ u → those (byCode plain) (front (moves c) l) ≡ [] → those (byCode plain) (cond (t && u) (m ∷ front (moves c) l) []) ≡ []
+    go true true e q = simp e q
+    go true false e q = refl
+    go false u e q = refl
+
+plain-pass : (c : ℕ) (l : List Mark) → those (byCode plain) (others c l) ≡ those (byCode plain) l
+plain-pass c l =
+    let b = behind (moves c) (behind (smaller c) l) in
+    let whole = ap (those (byCode plain)) (sym (pass-parts c l)) in
+    those-append (byCode plain) (skipped c l) b ∙ sym (whole ∙ those-append (byCode plain) (skipped c l) (block c l ++ b) ∙ ap (λ (x : List Mark). those (byCode plain) (skipped c l) ++ x) (those-append (byCode plain) (block c l) b ∙ ap (λ (x : List Mark). x ++ those (byCode plain) b) (plain-block c (behind (smaller c) l))))
+
+pub plain-passes : (new : ℕ → ℕ) (cs : List ℕ) (l : List Mark) → those (byCode plain) (passes new cs l) ≡ those (byCode plain) l
+unfolding passes
+plain-passes new [] l = refl
+plain-passes new (c ∷ cs) l =
+    rw (those-append (byCode plain) (numbered (new c) (block c l)) (passes new cs (others c l)), those-numbered plain (new c) (block c l), plain-block c (behind (smaller c) l))
+    (plain-passes new cs (others c l) ∙ plain-pass c l)

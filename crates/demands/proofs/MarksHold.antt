@@ -2,7 +2,7 @@
 -- Assumes nothing.
 use mathlib.Core.Path.{_≡_, refl, sym, ap, _∙_}
 use mathlib.Core.List.{[]}
-use Prim.Native.Nat.{ℕ, _≤_}
+use Prim.Native.Nat.{_≤_}
 use native.Mathlib.Omega.{arith}
 use lib.Dec.{eqb}
 use lib.ListN.{length}
@@ -12,9 +12,9 @@ use Rattle.marks.specs.declared.Answer.the-variants.{Reordered, Refused}
 use Rattle.marks.specs.declared.Merged.{Merged}
 use Rattle.marks.specs.declared.Merged.the-variants.{Nothing, One, Two}
 use Rattle.marks.specs.Passes.{reorderClasses, newClass}
-use Rattle.marks.specs.Reordered.{Request, Columns, Outcome, outcome, listed, part, newPart, reordered, rangesOf, reorderRows, reorderRefusal, numberSaid, rangesSaid, reorderAfter, Reordering}
+use Rattle.marks.specs.Reordered.{Request, Columns, Outcome, outcome, listed, part, newPart, reordered, rangesOf, reorderRefusal, numberSaid, rangesSaid, reorderAfter, Reordering}
 use Rattle.marks.proofs.UtrLaws.{passes-utr53, passes-arranged, number-passes, plain-passes}
-use Rattle.demands.specs.Marks.{OneAnswer, RefusedStays, SmallestNumber, OnlyThePart, ByUtr53, Arranged, NothingLost, OthersStay, AtMostTwo}
+use Rattle.demands.specs.Marks.{OneAnswer, RefusedStays, rowsFor, SmallestNumber, OnlyThePart, ByUtr53, Arranged, NothingLost, OthersStay, AtMostTwo}
 use Rattle.demands.proofs.ReorderedLaws.{same-answer, Allowed, allowed, part-inside, part-afterwards, outside-codes, outside-classes, ranges-within}
 
 pub one-answer : OneAnswer
@@ -37,7 +37,7 @@ refused-stays q c r d x n =
 pub smallest-number : SmallestNumber
 unfolding reorderRefusal
 smallest-number q c r d =
-    left-smallest (reorderRows (length (c .codes)) (length (c .classes)) (q .start) (q .end)) refl (old c) (new q c) (numberSaid r) (outcome (rangesSaid r) d)
+    left-smallest (rowsFor q c) refl (old c) (new q c) (numberSaid r) (outcome (rangesSaid r) d)
 
 -- an accepted request: the columns, the ranges and the part afterwards
 module _ (q : Request) (c : Columns) (r : Answer) (d : Columns) (x : Reordering q c r d) (z : numberSaid r ≡ 0) where

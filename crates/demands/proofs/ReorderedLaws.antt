@@ -2,14 +2,14 @@
 -- (`part-afterwards`, `outside-codes`, `outside-classes`); ranges lie within the marks that the passes go over (`ranges-within`).
 -- Assumes nothing.
 use mathlib.Core.Path.{_≡_, refl, sym, ap, ap₂, _∙_}
-use mathlib.Core.Bool.{Bool, true, false, _&&_, not, and-eq-true-iff}
+use mathlib.Core.Bool.{_&&_, not, and-eq-true-iff}
 use mathlib.Core.List.{List, [], _∷_, _++_, map, append-assoc}
-use Prim.Native.Nat.{ℕ, zero, suc, _+_, _≤_, _<_}
+use Prim.Native.Nat.{ℕ, zero, suc, _+_, _≤_}
 use native.Mathlib.Omega.{arith}
 use borrow.Author.Tests.{not-false, eqb-true, leb-true}
 use lib.Dec.{eqb, leb}
-use lib.ListN.{length, take, drop, length-append, length-take, length-drop, length-map}
-use lib.Seq.{slice, take-at, drop-at, take-append-add, drop-append-add, length-take-le, length-slice}
+use lib.ListN.{length, take, drop, length-append, length-drop, length-map}
+use lib.Seq.{slice, take-at, drop-at, length-take-le, length-slice}
 use Rattle.laws.specs.Rows.{Given}
 use Rattle.laws.proofs.RowLaws.{first-none}
 use Rattle.refusals.specs.Columns.{lineLimit}
@@ -23,10 +23,10 @@ use Rattle.marks.specs.declared.Merged.{Merged}
 use Rattle.marks.specs.declared.Merged.the-variants.{Nothing, One, Two}
 use Rattle.marks.specs.declared.Answer.{Answer}
 use Rattle.marks.specs.declared.Answer.the-variants.{Reordered}
-use Rattle.marks.specs.Passes.{Span, Over, merged, skipped, block, others, behind, smaller, moves, ranges, reorderClasses, newClass, passes}
-use Rattle.marks.specs.Reordered.{Request, Columns, span, listed, numberSaid, rangesSaid, line, part, newPart, newLine, reordered, reorderRefusal}
+use Rattle.marks.specs.Passes.{Span, Over, merged, skipped, block, others, behind, smaller, moves, ranges, reorderClasses, newClass}
+use Rattle.marks.specs.Reordered.{Request, Columns, numberSaid, rangesSaid, line, part, newPart, newLine, reordered, reorderRefusal}
 use Rattle.marks.proofs.UtrLaws.{pass-parts, length-passes}
-use Rattle.demands.specs.Marks.{Outside, Within, AllWithin}
+use Rattle.demands.specs.Marks.{Outside, AllWithin}
 
 -- ---- an answer is known by what it says
 -- read back from its ranges, and from its number
@@ -82,7 +82,7 @@ allowed q c z =
     record {
       even = eqb-true n (length (c .classes)) (not-false _ (uneven-not .0));
       order = leb-true (q .start) (q .end) (range .0);
-      inside = leb-true (q .end) n (range .1)
+      inside = leb-true (q .end) n (range .1);
     }
 
 -- ---- columns and the list of marks
@@ -111,35 +111,29 @@ drop-map f zero l = refl
 drop-map f (suc n) [] = refl
 drop-map f (suc n) (x ∷ l) = drop-map f n l
 
--- ---- a list whose part from a place to another gets as many new elements
-module _ {A : Type 0} (start end : ℕ) (l new : List A) (order : start ≤ end) (inside : end ≤ length l) (same : length new ≡ length (slice start end l)) where
-  abbrev patched : List A
-  patched = take start l ++ (new ++ drop end l)
+-- ---- a list whose part from a place to another gets new elements
+-- l has become m
+record Patched {A : Type 0} (start end : ℕ) (l new m : List A) : Type 0 where
+  before : take start m ≡ take start l
+  part : slice start end m ≡ new
+  behind : drop end m ≡ drop end l
+  long : length m ≡ length l
 
-  -- all before its end
-  abbrev upTo : List A
-  upTo = take start l ++ new
-
-  length-front : length (take start l) ≡ start
-  length-front = length-take-le start l (omega arith)
-
-  length-up-to : length upTo ≡ end
-  length-up-to = omega (arith, length-append (take start l) new, length-front, same, length-slice start end l inside)
-
-  patched-up-to : patched ≡ upTo ++ drop end l
-  patched-up-to = sym (append-assoc (take start l) new (drop end l))
-
-  take-patched : take start patched ≡ take start l
-  take-patched = take-at (take start l) (new ++ drop end l) start length-front
-
-  drop-patched : drop end patched ≡ drop end l
-  drop-patched = ap (drop end) patched-up-to ∙ drop-at upTo (drop end l) end length-up-to
-
-  slice-patched : slice start end patched ≡ new
-  slice-patched = ap (slice start end) patched-up-to ∙ ap (drop start) (take-at upTo (drop end l) end length-up-to) ∙ drop-at (take start l) new start length-front
-
-  length-patched : length patched ≡ length l
-  length-patched = omega (arith, ap length patched-up-to, length-append upTo (drop end l), length-up-to, length-drop end l)
+-- where these are as many as the old ones
+patched :
+    {A : Type 0} (start end : ℕ) (l new : List A) → start ≤ end → end ≤ length l → length new ≡ length (slice start end l)
+    → Patched start end l new (take start l ++ (new ++ drop end l))
+patched {A} start end l new order inside same =
+    let head : List A = take start l in
+    let head-length : length head ≡ start = length-take-le start l (omega arith) in
+    let up-to : length (head ++ new) ≡ end = omega (arith, length-append head new, head-length, same, length-slice start end l inside) in
+    let parts : head ++ (new ++ drop end l) ≡ (head ++ new) ++ drop end l = sym (append-assoc head new (drop end l)) in
+    record {
+      before = take-at head (new ++ drop end l) start head-length;
+      part = ap (slice start end) parts ∙ ap (drop start) (take-at (head ++ new) (drop end l) end up-to) ∙ drop-at head new start head-length;
+      behind = ap (drop end) parts ∙ drop-at (head ++ new) (drop end l) end up-to;
+      long = omega (arith, ap length parts, length-append (head ++ new) (drop end l), up-to, length-drop end l);
+    }
 
 -- ---- the line afterwards
 module _ (q : Request) (c : Columns) (a : Allowed q c) where
@@ -155,19 +149,19 @@ module _ (q : Request) (c : Columns) (a : Allowed q c) where
   pub part-inside : q .start + length (part q c) ≤ q .end
   part-inside = omega (arith, length-slice (q .start) (q .end) (line c) inside-line, a .order)
 
-  same-length : length (newPart q c) ≡ length (part q c)
-  same-length = length-passes (newClass (q .low) (q .high)) reorderClasses (part q c)
+  new-line : Patched (q .start) (q .end) (line c) (newPart q c) (newLine q c)
+  new-line = patched (q .start) (q .end) (line c) (newPart q c) (a .order) inside-line (length-passes (newClass (q .low) (q .high)) reorderClasses (part q c))
 
   pub part-afterwards : part q (reordered q c) ≡ newPart q c
-  part-afterwards = ap (slice (q .start) (q .end)) (marks-columns (newLine q c)) ∙ slice-patched (q .start) (q .end) (line c) (newPart q c) (a .order) inside-line same-length
+  part-afterwards = ap (slice (q .start) (q .end)) (marks-columns (newLine q c)) ∙ new-line .part
 
   -- a column, of codes or of classes
   outside-column : (f : Mark → ℕ) → Outside q (map f (line c)) (map f (newLine q c))
   outside-column f =
       record {
-        before = take-map f (q .start) (newLine q c) ∙ ap (map f) (take-patched (q .start) (q .end) (line c) (newPart q c) (a .order) inside-line same-length) ∙ sym (take-map f (q .start) (line c));
-        behind = drop-map f (q .end) (newLine q c) ∙ ap (map f) (drop-patched (q .start) (q .end) (line c) (newPart q c) (a .order) inside-line same-length) ∙ sym (drop-map f (q .end) (line c));
-        long = length-map (newLine q c) f ∙ length-patched (q .start) (q .end) (line c) (newPart q c) (a .order) inside-line same-length ∙ sym (length-map (line c) f)
+        before = take-map f (q .start) (newLine q c) ∙ ap (map f) (new-line .before) ∙ sym (take-map f (q .start) (line c));
+        behind = drop-map f (q .end) (newLine q c) ∙ ap (map f) (new-line .behind) ∙ sym (drop-map f (q .end) (line c));
+        long = length-map (newLine q c) f ∙ new-line .long ∙ sym (length-map (line c) f);
       }
 
   pub outside-codes : Outside q (c .codes) (reordered q c .codes)

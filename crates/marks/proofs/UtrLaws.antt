@@ -3,12 +3,12 @@
 -- the passes keep the number (`number-passes`), so also of all (`length-passes`); and those that are no modifiers they leave as they are, in their order (`plain-passes`).
 -- Assumes nothing.
 use mathlib.Core.Path.{_≡_, refl, sym, ap, ap₂, _∙_}
-use mathlib.Core.Bool.{Bool, true, false, cond, not, _&&_, and-eq-true-iff}
-use mathlib.Core.List.{List, [], _∷_, _++_, append-assoc, map-append}
+use mathlib.Core.Bool.{Bool, true, false, cond, not, _&&_}
+use mathlib.Core.List.{List, [], _∷_, _++_, map-append}
 use Prim.Native.Nat.{ℕ, _+_, _≤_, _<_}
 use native.Mathlib.Omega.{arith}
 use borrow.Author.Tests.{ne-eqb, le-ltb, eqb-true, eqb-false, ltb-true, ltb-false}
-use lib.Dec.{eqb, ltb}
+use lib.Dec.{ltb}
 use lib.ListN.{length, length-append, length-map}
 use Rattle.blocks.specs.Marks.{Mark, codesOf, renumber, numbered}
 use Rattle.marks.specs.Modifiers.{modifier}
@@ -263,8 +263,10 @@ plain-block c (m ∷ l) = go (ofClass c m) (isModifier m) refl (plain-block c l)
 plain-pass : (c : ℕ) (l : List Mark) → those (byCode plain) (others c l) ≡ those (byCode plain) l
 plain-pass c l =
     let b = behind (moves c) (behind (smaller c) l) in
-    let whole = ap (those (byCode plain)) (sym (pass-parts c l)) in
-    those-append (byCode plain) (skipped c l) b ∙ sym (whole ∙ those-append (byCode plain) (skipped c l) (block c l ++ b) ∙ ap (λ (x : List Mark). those (byCode plain) (skipped c l) ++ x) (those-append (byCode plain) (block c l) b ∙ ap (λ (x : List Mark). x ++ those (byCode plain) b) (plain-block c (behind (smaller c) l))))
+    let whole : those (byCode plain) (skipped c l ++ (block c l ++ b)) ≡ those (byCode plain) (skipped c l ++ b) =
+    simp (those-append, plain-block c (behind (smaller c) l))
+    in
+    sym whole ∙ ap (those (byCode plain)) (pass-parts c l)
 
 pub plain-passes : (new : ℕ → ℕ) (cs : List ℕ) (l : List Mark) → those (byCode plain) (passes new cs l) ≡ those (byCode plain) l
 unfolding passes

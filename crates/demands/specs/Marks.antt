@@ -48,7 +48,7 @@ OnlyThePart =
     → Outside q (c .codes) (d .codes) × Outside q (c .classes) (d .classes)
 
 -- ---- an accepted request: the part, where its classes do not fall
--- Its codes are in the order that UTR 53's steps give.
+-- Its codes are in the order that UTR 53's two steps for modifier marks give.
 abbrev pub ByUtr53 : Type 0
 ByUtr53 =
     (q : Request) (c : Columns) (r : Answer) (d : Columns) → Reordering q c r d → numberSaid r ≡ 0

@@ -15,7 +15,7 @@ use Rattle.marks.specs.Passes.{reorderClasses, newClass}
 use Rattle.marks.specs.Reordered.{Request, Columns, Outcome, outcome, listed, part, newPart, reordered, rangesOf, reorderRefusal, numberSaid, rangesSaid, reorderAfter, Reordering}
 use Rattle.marks.proofs.UtrLaws.{passes-utr53, passes-arranged, number-passes, plain-passes}
 use Rattle.demands.specs.Marks.{OneAnswer, RefusedStays, rowsFor, SmallestNumber, OnlyThePart, ByUtr53, Arranged, NothingLost, OthersStay, AtMostTwo}
-use Rattle.demands.proofs.ReorderedLaws.{same-answer, Allowed, allowed, part-inside, part-afterwards, outside-codes, outside-classes, ranges-within}
+use Rattle.demands.proofs.ReorderedLaws.{same-answer, Allowed, allowed, length-part, part-afterwards, outside-codes, outside-classes, ranges-within}
 
 pub one-answer : OneAnswer
 one-answer q c r u d e x y =
@@ -78,5 +78,5 @@ two-listed (Two a b) = omega arith
 
 pub at-most-two : AtMostTwo
 at-most-two q c (Reordered m) d x =
-    (two-listed m, rw (ranges-left q c (Reordered m) d x refl) (ranges-within q (q .start) reorderClasses (part q c) (omega arith) (part-inside q c (accepted q c (Reordered m) d x refl))))
+    (two-listed m, rw (ranges-left q c (Reordered m) d x refl) (ranges-within q (q .start) reorderClasses (part q c) (omega arith) (omega (arith, length-part q c (accepted q c (Reordered m) d x refl)))))
 at-most-two q c (Refused k) d x = (omega arith, tt)

@@ -3,21 +3,23 @@
 -- Assumes nothing.
 use mathlib.Core.Path.{_≡_, refl, sym, ap, ap₂, _∙_}
 use mathlib.Core.Bool.{_&&_, not, and-eq-true-iff}
-use mathlib.Core.List.{List, [], _∷_, _++_, map, append-assoc}
+use mathlib.Core.List.{List, [], _∷_, _++_, map}
 use Prim.Native.Nat.{ℕ, zero, suc, _+_, _≤_}
 use native.Mathlib.Omega.{arith}
 use borrow.Author.Tests.{not-false, eqb-true, leb-true}
 use lib.Dec.{eqb, leb}
 use lib.ListN.{length, take, drop, length-append, length-drop, length-map}
-use lib.Seq.{slice, take-at, drop-at, length-take-le, length-slice}
+use lib.Seq.{slice, length-take-le, length-slice}
 use Rattle.laws.specs.Rows.{Given}
 use Rattle.laws.proofs.RowLaws.{first-none}
+use Rattle.laws.proofs.PartLaws.{take-parts, slice-parts, drop-parts}
 use Rattle.refusals.specs.Columns.{lineLimit}
 use Rattle.refusals.specs.declared.Verdict.{Verdict}
 use Rattle.refusals.specs.declared.Verdict.the-variants.{Accepted, Refused}
 use Rattle.refusals.specs.Numbers.{said}
 use Rattle.refusals.proofs.VerdictLaws.{same-said}
 use Rattle.blocks.specs.Marks.{Mark, marks, codesOf, classesOf}
+use Rattle.blocks.proofs.MarkLaws.{length-marks, codes-marks, classes-marks}
 use Rattle.marks.specs.declared.Range.{Range}
 use Rattle.marks.specs.declared.Merged.{Merged}
 use Rattle.marks.specs.declared.Merged.the-variants.{Nothing, One, Two}
@@ -90,17 +92,6 @@ marks-columns : (l : List Mark) → marks (codesOf l) (classesOf l) ≡ l
 marks-columns [] = refl
 marks-columns (m ∷ l) = ap (λ (x : List Mark). m ∷ x) (marks-columns l)
 
-codes-marks : (cs ks : List ℕ) → length cs ≡ length ks → codesOf (marks cs ks) ≡ cs
-codes-marks [] ks e = refl
-codes-marks (c ∷ cs) [] e = absurd (omega arith)
-codes-marks (c ∷ cs) (k ∷ ks) e = ap (λ (x : List ℕ). c ∷ x) (codes-marks cs ks (omega arith))
-
-classes-marks : (cs ks : List ℕ) → length cs ≡ length ks → classesOf (marks cs ks) ≡ ks
-classes-marks [] [] e = refl
-classes-marks [] (k ∷ ks) e = absurd (omega arith)
-classes-marks (c ∷ cs) [] e = absurd (omega arith)
-classes-marks (c ∷ cs) (k ∷ ks) e = ap (λ (x : List ℕ). k ∷ x) (classes-marks cs ks (omega arith))
-
 take-map : {A B : Type 0} (f : A → B) (n : ℕ) (l : List A) → take n (map f l) ≡ map f (take n l)
 take-map f zero l = refl
 take-map f (suc n) [] = refl
@@ -111,64 +102,51 @@ drop-map f zero l = refl
 drop-map f (suc n) [] = refl
 drop-map f (suc n) (x ∷ l) = drop-map f n l
 
--- ---- a list whose part from a place to another gets new elements
--- l has become m
-record Patched {A : Type 0} (start end : ℕ) (l new m : List A) : Type 0 where
-  before : take start m ≡ take start l
-  part : slice start end m ≡ new
-  behind : drop end m ≡ drop end l
-  long : length m ≡ length l
-
--- where these are as many as the old ones
-patched :
-    {A : Type 0} (start end : ℕ) (l new : List A) → start ≤ end → end ≤ length l → length new ≡ length (slice start end l)
-    → Patched start end l new (take start l ++ (new ++ drop end l))
-patched {A} start end l new order inside same =
-    let head : List A = take start l in
-    let head-length : length head ≡ start = length-take-le start l (omega arith) in
-    let up-to : length (head ++ new) ≡ end = omega (arith, length-append head new, head-length, same, length-slice start end l inside) in
-    let parts : head ++ (new ++ drop end l) ≡ (head ++ new) ++ drop end l = sym (append-assoc head new (drop end l)) in
-    record {
-      before = take-at head (new ++ drop end l) start head-length;
-      part = ap (slice start end) parts ∙ ap (drop start) (take-at (head ++ new) (drop end l) end up-to) ∙ drop-at head new start head-length;
-      behind = ap (drop end) parts ∙ drop-at (head ++ new) (drop end l) end up-to;
-      long = omega (arith, ap length parts, length-append (head ++ new) (drop end l), up-to, length-drop end l);
-    }
-
 -- ---- the line afterwards
+-- what lies before the part, and behind it
+abbrev head : Request → Columns → List Mark
+head q c = take (q .start) (line c)
+
+abbrev tail : Request → Columns → List Mark
+tail q c = drop (q .end) (line c)
+
 module _ (q : Request) (c : Columns) (a : Allowed q c) where
-  codes-line : codesOf (line c) ≡ c .codes
-  codes-line = codes-marks (c .codes) (c .classes) (a .even)
+  length-head : length (head q c) ≡ q .start
+  length-head = length-take-le (q .start) (line c) (omega (arith, length-marks (c .codes) (c .classes) (a .even), a .order, a .inside))
 
-  classes-line : classesOf (line c) ≡ c .classes
-  classes-line = classes-marks (c .codes) (c .classes) (a .even)
+  pub length-part : length (part q c) + q .start ≡ q .end
+  length-part =
+      let inside : q .end ≤ length (line c) = omega (arith, length-marks (c .codes) (c .classes) (a .even), a .inside) in
+      omega (arith, length-slice (q .start) (q .end) (line c) inside, a .order)
 
-  inside-line : q .end ≤ length (line c)
-  inside-line = omega (arith, length-map (line c) (λ m. m .code), ap length codes-line, a .inside)
-
-  pub part-inside : q .start + length (part q c) ≤ q .end
-  part-inside = omega (arith, length-slice (q .start) (q .end) (line c) inside-line, a .order)
-
-  new-line : Patched (q .start) (q .end) (line c) (newPart q c) (newLine q c)
-  new-line = patched (q .start) (q .end) (line c) (newPart q c) (a .order) inside-line (length-passes (newClass (q .low) (q .high)) reorderClasses (part q c))
+  length-newPart : length (newPart q c) + q .start ≡ q .end
+  length-newPart = omega (arith, length-passes (newClass (q .low) (q .high)) reorderClasses (part q c), length-part)
 
   pub part-afterwards : part q (reordered q c) ≡ newPart q c
-  part-afterwards = ap (slice (q .start) (q .end)) (marks-columns (newLine q c)) ∙ new-line .part
+  part-afterwards =
+      ap (slice (q .start) (q .end)) (marks-columns (newLine q c)) ∙ slice-parts (head q c) (newPart q c) (tail q c) (q .start) (q .end) length-head length-newPart
+
+  length-newLine : length (newLine q c) ≡ length (line c)
+  length-newLine =
+      let inside : q .end ≤ length (line c) = omega (arith, length-marks (c .codes) (c .classes) (a .even), a .inside) in
+      simp length-append (omega (arith, length-head, length-newPart, length-drop (q .end) (line c)))
 
   -- a column, of codes or of classes
   outside-column : (f : Mark → ℕ) → Outside q (map f (line c)) (map f (newLine q c))
   outside-column f =
+      let before = take-parts (head q c) (newPart q c) (tail q c) (q .start) (q .end) length-head length-newPart in
+      let behind = drop-parts (head q c) (newPart q c) (tail q c) (q .start) (q .end) length-head length-newPart in
       record {
-        before = take-map f (q .start) (newLine q c) ∙ ap (map f) (new-line .before) ∙ sym (take-map f (q .start) (line c));
-        behind = drop-map f (q .end) (newLine q c) ∙ ap (map f) (new-line .behind) ∙ sym (drop-map f (q .end) (line c));
-        long = length-map (newLine q c) f ∙ new-line .long ∙ sym (length-map (line c) f);
+        before = take-map f (q .start) (newLine q c) ∙ ap (map f) before ∙ sym (take-map f (q .start) (line c));
+        behind = drop-map f (q .end) (newLine q c) ∙ ap (map f) behind ∙ sym (drop-map f (q .end) (line c));
+        long = length-map (newLine q c) f ∙ length-newLine ∙ sym (length-map (line c) f);
       }
 
   pub outside-codes : Outside q (c .codes) (reordered q c .codes)
-  outside-codes = rw codes-line at (outside-column (λ m. m .code))
+  outside-codes = rw (codes-marks (c .codes) (c .classes) (a .even)) at (outside-column (λ m. m .code))
 
   pub outside-classes : Outside q (c .classes) (reordered q c .classes)
-  outside-classes = rw classes-line at (outside-column (λ m. m .class))
+  outside-classes = rw (classes-marks (c .codes) (c .classes) (a .even)) at (outside-column (λ m. m .class))
 
 -- ---- the ranges
 length-parts : (k : ℕ) (l : List Mark) → (length (skipped k l) + length (block k l) ≤ length l) × (length (block k l) + length (others k l) ≡ length l)

@@ -2,3 +2,6 @@
 -- Assumes nothing.
 pub mod PassLaws
 pub mod WalkLaws
+pub mod ReorderedLaws
+pub mod UtrLaws
+pub mod MarkExamples

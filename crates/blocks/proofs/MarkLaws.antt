@@ -74,3 +74,7 @@ classes-marks [] [] e = refl
 classes-marks [] (k ∷ ks) e = absurd (omega arith)
 classes-marks (c ∷ cs) [] e = absurd (omega arith)
 classes-marks (c ∷ cs) (k ∷ ks) e = ap (λ (l : List ℕ). k ∷ l) (classes-marks cs ks (omega arith))
+
+pub marks-columns : (l : List Mark) → marks (codesOf l) (classesOf l) ≡ l
+marks-columns [] = refl
+marks-columns (m ∷ l) = ap (λ (x : List Mark). m ∷ x) (marks-columns l)

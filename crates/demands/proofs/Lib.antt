@@ -5,6 +5,6 @@ pub mod JoiningHolds
 pub mod MarksHold
 pub mod NamedLaws
 pub mod ProgramHolds
-pub mod ReorderedLaws
+pub mod PartLaws
 pub mod ReplacingHolds
 pub mod WholeLaws

@@ -12,10 +12,11 @@ use Rattle.marks.specs.declared.Answer.the-variants.{Reordered, Refused}
 use Rattle.marks.specs.declared.Merged.{Merged}
 use Rattle.marks.specs.declared.Merged.the-variants.{Nothing, One, Two}
 use Rattle.marks.specs.Passes.{reorderClasses, newClass}
-use Rattle.marks.specs.Reordered.{Request, Columns, Outcome, outcome, listed, part, newPart, reordered, rangesOf, reorderRefusal, numberSaid, rangesSaid, reorderAfter, Reordering}
+use Rattle.marks.specs.Reordered.{Request, Columns, Outcome, outcome, listed, part, newPart, reordered, rangesOf, reorderRows, reorderRefusal, numberSaid, rangesSaid, reorderAfter, Reordering}
+use Rattle.marks.proofs.ReorderedLaws.{same-answer, Allowed, allowed, length-part, part-afterwards}
 use Rattle.marks.proofs.UtrLaws.{passes-utr53, passes-arranged, number-passes, plain-passes}
-use Rattle.demands.specs.Marks.{OneAnswer, RefusedStays, rowsFor, SmallestNumber, OnlyThePart, ByUtr53, Arranged, NothingLost, OthersStay, AtMostTwo}
-use Rattle.demands.proofs.ReorderedLaws.{same-answer, Allowed, allowed, length-part, part-afterwards, outside-codes, outside-classes, ranges-within}
+use Rattle.demands.specs.Marks.{OneAnswer, RefusedStays, SmallestNumber, OnlyThePart, ByUtr53, Arranged, NothingLost, OthersStay, AtMostTwo}
+use Rattle.demands.proofs.PartLaws.{outside-codes, outside-classes, ranges-within}
 
 pub one-answer : OneAnswer
 one-answer q c r u d e x y =
@@ -37,7 +38,7 @@ refused-stays q c r d x n =
 pub smallest-number : SmallestNumber
 unfolding reorderRefusal
 smallest-number q c r d =
-    left-smallest (rowsFor q c) refl (old c) (new q c) (numberSaid r) (outcome (rangesSaid r) d)
+    left-smallest (reorderRows q c) refl (old c) (new q c) (numberSaid r) (outcome (rangesSaid r) d)
 
 -- an accepted request: the columns, the ranges and the part afterwards
 module _ (q : Request) (c : Columns) (r : Answer) (d : Columns) (x : Reordering q c r d) (z : numberSaid r ≡ 0) where

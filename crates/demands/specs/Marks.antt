@@ -1,4 +1,4 @@
--- What reordering the modifier marks of a part of a line promises, of every request, by the call's statement (`Reordering` of crate marks): `OneAnswer`, `RefusedStays`; `rowsFor`, `SmallestNumber`;
+-- What reordering the modifier marks of a part of a line promises, of every request, by the call's statement (`Reordering` of crate marks): `OneAnswer`, `RefusedStays`, `SmallestNumber`;
 -- `Outside` that a column stays as it was but for the part, `OnlyThePart`; `ByUtr53`, `Arranged` what the part becomes where its classes do not fall; `withCode`, `NothingLost`, `OthersStay` what holds whatever its classes are;
 -- `Within`, `AllWithin`, `AtMostTwo` where the ranges lie.
 -- Assumes nothing.
@@ -8,7 +8,7 @@ use mathlib.Core.List.{List, [], _∷_}
 use Prim.Native.Nat.{ℕ, _<_, _≤_}
 use lib.Dec.{eqb}
 use lib.ListN.{length, take, drop}
-use Rattle.laws.specs.Rows.{Row, Has}
+use Rattle.laws.specs.Rows.{Has}
 use Rattle.blocks.specs.Marks.{Mark, codesOf}
 use Rattle.marks.specs.declared.Answer.{Answer}
 use Rattle.marks.specs.Passes.{Span, Over}
@@ -23,16 +23,12 @@ OneAnswer = (q : Request) (c : Columns) (r u : Answer) (d e : Columns) → Reord
 abbrev pub RefusedStays : Type 0
 RefusedStays = (q : Request) (c : Columns) (r : Answer) (d : Columns) → Reordering q c r d → (numberSaid r ≡ 0 → ⊥) → (d ≡ c) × (rangesSaid r ≡ [])
 
--- the rows of document 01's table, for a request on columns
-abbrev pub rowsFor : Request → Columns → List Row
-rowsFor q c = reorderRows (length (c .codes)) (length (c .classes)) (q .start) (q .end)
-
 -- Where several refusals apply, the smallest number is given: a number that is given is that of a row of the table that applies; and where a row
 -- applies, a number is given, and no larger one. So a request is accepted exactly when no row applies.
 abbrev pub SmallestNumber : Type 0
 SmallestNumber =
     (q : Request) (c : Columns) (r : Answer) (d : Columns) → Reordering q c r d
-    → ((numberSaid r ≡ 0 → ⊥) → Has (rowsFor q c) (numberSaid r) true) × ((n : ℕ) → Has (rowsFor q c) n true → (0 < numberSaid r) × (numberSaid r ≤ n))
+    → ((numberSaid r ≡ 0 → ⊥) → Has (reorderRows q c) (numberSaid r) true) × ((n : ℕ) → Has (reorderRows q c) n true → (0 < numberSaid r) × (numberSaid r ≤ n))
 
 -- ---- an accepted request: the rest of the line
 -- a column l has become m: before start and from end on it is as it was, and it has neither grown nor shrunk

@@ -1,9 +1,9 @@
 -- Parts of a list: a list in three parts (`three-parts`), and each of them again (`take-parts`, `slice-parts`, `drop-parts`); the second of two (`second-part`, `second-put`); a part turned round (`turned`) by exchanges from
--- both ends; and that three turns put the second of two parts before the first (`three-turns`).
+-- both ends; and that three turns put the second of two parts before the first (`three-turns`). And parts of what a function makes of each element (`take-map`, `drop-map`).
 -- Assumes nothing.
 use mathlib.Core.Path.{_≡_, refl, sym, ap, ap₂, _∙_}
-use mathlib.Core.List.{List, [], _∷_, _++_, reverse, reverse-append, reverse-reverse, reverse-cons, append-assoc, append-nil}
-use Prim.Native.Nat.{ℕ, suc, _+_, _-_, _≤_, _<_}
+use mathlib.Core.List.{List, [], _∷_, _++_, map, reverse, reverse-append, reverse-reverse, reverse-cons, append-assoc, append-nil}
+use Prim.Native.Nat.{ℕ, zero, suc, _+_, _-_, _≤_, _<_}
 use native.Mathlib.Omega.{arith}
 use lib.ListN.{length, getD, take, drop, set, take-append-drop, length-append, drop-of-length-le}
 use lib.Seq.{slice, length-take-le, length-slice, split-at, drop-cons, drop-append-le, take-at, take-all, drop-at, set-at, append-snoc}
@@ -40,6 +40,13 @@ module _ {A : Type 0} where
 
     pub second-put : (x : List A) → take a (T ++ E) ++ (x ++ drop (length (T ++ E) - a) (drop a (T ++ E))) ≡ T ++ x
     second-put x = rw (left, take-at T E a s, drop-at T E a s, drop-of-length-le E {i = length E} (omega arith)) (ap (λ (r : List A). T ++ r) (append-nil x))
+
+  -- a part from a to b, by its length
+  pub slice-mid : (a b : ℕ) (l : List A) → take (b - a) (drop a l) ≡ slice a b l
+  slice-mid zero b l = let e : b - zero ≡ b = omega arith in rw e
+  slice-mid (suc a) zero l = let e : zero - suc a ≡ zero = omega arith in rw e
+  slice-mid (suc a) (suc b) [] = take-all (suc b - suc a) [] (omega arith)
+  slice-mid (suc a) (suc b) (x ∷ l) = let e : suc b - suc a ≡ b - a = omega arith in rw e (slice-mid a b l)
 
   -- what lies behind a: the part to b, and what lies behind that
   pub drop-parted : (l : List A) (a b : ℕ) → a ≤ b → b ≤ length l → drop a l ≡ slice a b l ++ drop b l
@@ -110,3 +117,15 @@ module _ {A : Type 0} where
   -- two parts turned round each, and then the whole
   pub three-turns : (B C : List A) → reverse (reverse B ++ reverse C) ≡ C ++ B
   three-turns B C = reverse-append (reverse B) (reverse C) ∙ ap₂ (λ (r s : List A). r ++ s) (reverse-reverse C) (reverse-reverse B)
+
+-- ---- of each element
+module _ {A B : Type 0} (f : A → B) where
+  pub take-map : (n : ℕ) (l : List A) → take n (map f l) ≡ map f (take n l)
+  take-map zero l = refl
+  take-map (suc n) [] = refl
+  take-map (suc n) (x ∷ l) = ap (λ (y : List B). f x ∷ y) (take-map n l)
+
+  pub drop-map : (n : ℕ) (l : List A) → drop n (map f l) ≡ map f (drop n l)
+  drop-map zero l = refl
+  drop-map (suc n) [] = refl
+  drop-map (suc n) (x ∷ l) = drop-map n l

@@ -8,9 +8,9 @@ use Prim.Native.Nat.{ℕ, suc, _+_, _≤_, _<_}
 use native.Mathlib.Omega.{arith}
 use borrow.Author.Tests.{lt-ltb, le-ltb}
 use lib.Dec.{ltb}
-use lib.ListN.{length, getD, drop, drop-of-length-le, length-append, length-drop}
+use lib.ListN.{length, getD, drop, drop-of-length-le, length-append, length-drop, length-map}
 use Rattle.laws.proofs.LoopLaws.{drop-next}
-use Rattle.blocks.specs.Marks.{Mark, numbered}
+use Rattle.blocks.specs.Marks.{Mark, renumber, numbered}
 use Rattle.marks.specs.Passes.{front, behind, smaller, moves, skipped, block, others, passes, Span, Over, merged, ranges}
 
 -- every mark is of a class below c
@@ -44,6 +44,10 @@ front-behind p (m ∷ ms) = go (p m) (front-behind p ms)
     go : (t : Bool) → front p ms ++ behind p ms ≡ ms → cond t (m ∷ front p ms) [] ++ cond t (behind p ms) (m ∷ ms) ≡ m ∷ ms
     go true e = ap (λ (l : List Mark). m ∷ l) e
     go false e = refl
+
+-- what a pass skips, its block, and what is behind that
+pub pass-parts : (c : ℕ) (l : List Mark) → skipped c l ++ (block c l ++ behind (moves c) (behind (smaller c) l)) ≡ l
+pass-parts c l = rw (front-behind (moves c) (behind (smaller c) l)) (front-behind (smaller c) l)
 
 -- the mark at i passes the test
 pub front-more : (p : Mark → Bool) (l : List Mark) (i : ℕ) (d : Mark) → i < length l → p (getD l i d) ≡ true → i + length (front p (drop i l)) ≡ i + 1 + length (front p (drop (i + 1) l))
@@ -113,6 +117,16 @@ ranges-low start [] l p = refl
 ranges-low start (c ∷ cs) l p =
     let e = append-nil l in
     ap (ranges start (c ∷ cs)) (sym e) ∙ ranges-is c l [] (p .0) tt start cs ∙ ap (ranges (start + 0) cs) e ∙ ranges-low (start + 0) cs l (p .1)
+
+-- no mark is lost or doubled
+pub length-passes : (new : ℕ → ℕ) (cs : List ℕ) (l : List Mark) → length (passes new cs l) ≡ length l
+unfolding passes
+length-passes new [] l = refl
+length-passes new (c ∷ cs) l =
+    let b = behind (moves c) (behind (smaller c) l) in
+    let taken = length-append (numbered (new c) (block c l)) (passes new cs (others c l)) in
+    let parted = ap length (pass-parts c l) in
+    omega (arith, taken, length-map (block c l) (renumber (new c)), length-passes new cs (others c l), length-append (skipped c l) b, parted, length-append (skipped c l) (block c l ++ b), length-append (block c l) b)
 
 -- the range of a block that begins behind the skipped marks, at i, and ends at j
 pub merged-is : (start i j : ℕ) (a x : List Mark) → i + length x ≡ j → merged start a x ≡ cond (ltb i j) (Over start (start + (length a + length x)) ∷ []) []

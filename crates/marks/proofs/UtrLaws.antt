@@ -1,6 +1,6 @@
 -- Mark reordering and UTR 53. Of any marks: the algorithm's two steps come to the 220 block, the 230 block and the rest (`steps`). Where classes do not fall: a pass is one of its steps
 -- (`pass-step`), so that the passes come to what the steps do (`passes-arranged`), and the codes are those of UTR 53 (`passes-utr53`). Of any marks again: of those whose code passes a test
--- the passes keep the number (`number-passes`), so also of all (`length-passes`); and those that are no modifiers they leave as they are, in their order (`plain-passes`).
+-- the passes keep the number (`number-passes`); and those that are no modifiers they leave as they are, in their order (`plain-passes`).
 -- Assumes nothing.
 use mathlib.Core.Path.{_≡_, refl, sym, ap, ap₂, _∙_}
 use mathlib.Core.Bool.{Bool, true, false, cond, not, _&&_}
@@ -13,6 +13,7 @@ use lib.ListN.{length, length-append, length-map}
 use Rattle.blocks.specs.Marks.{Mark, codesOf, renumber, numbered}
 use Rattle.marks.specs.Modifiers.{modifier}
 use Rattle.marks.specs.Passes.{front, behind, smaller, moves, skipped, block, others, reorderClasses, newClass, passes}
+use Rattle.marks.proofs.PassLaws.{pass-parts}
 use Rattle.marks.specs.Utr53.{Least, Rising, those, ofClass, isModifier, lead, without, toBeginning, utr53, arranged}
 
 -- ---- the steps of two classes, on any marks
@@ -179,19 +180,7 @@ codes-arranged low high l = rw (steps l) (simp (map-append, codes-numbered))
 pub passes-utr53 : (low high : ℕ) (l : List Mark) → Rising l → codesOf (passes (newClass low high) reorderClasses l) ≡ codesOf (utr53 l)
 passes-utr53 low high l r = ap codesOf (passes-arranged low high l r) ∙ codes-arranged low high l
 
--- ---- any marks: what a pass takes apart
-pub front-behind : (p : Mark → Bool) (l : List Mark) → front p l ++ behind p l ≡ l
-front-behind p [] = refl
-front-behind p (m ∷ l) = go (p m) (front-behind p l)
-  where
-    go : (t : Bool) → front p l ++ behind p l ≡ l → cond t (m ∷ front p l) [] ++ cond t (behind p l) (m ∷ l) ≡ m ∷ l
-    go true q = ap (λ (x : List Mark). m ∷ x) q
-    go false q = refl
-
--- what it skips, its block, and what is behind that
-pub pass-parts : (c : ℕ) (l : List Mark) → skipped c l ++ (block c l ++ behind (moves c) (behind (smaller c) l)) ≡ l
-pass-parts c l = rw (front-behind (moves c) (behind (smaller c) l)) (front-behind (smaller c) l)
-
+-- ---- any marks: nothing is lost or doubled
 those-append : (p : Mark → Bool) (x y : List Mark) → those p (x ++ y) ≡ those p x ++ those p y
 those-append p [] y = refl
 those-append p (m ∷ x) y = go (p m) (those-append p x y)
@@ -202,7 +191,6 @@ those-append p (m ∷ x) y = go (p m) (those-append p x y)
     go true q = ap (λ (z : List Mark). m ∷ z) q
     go false q = q
 
--- ---- any marks: nothing is lost or doubled
 -- a test of codes, as one of marks
 abbrev pub byCode : (ℕ → Bool) → Mark → Bool
 byCode p m = p (m .code)
@@ -236,14 +224,6 @@ number-passes p new [] l = refl
 number-passes p new (c ∷ cs) l =
     let moved : number p (numbered (new c) (block c l)) ≡ number p (block c l) = rw (those-numbered p (new c) (block c l)) (length-map (those (byCode p) (block c l)) (renumber (new c))) in
     omega (arith, number-append p (numbered (new c) (block c l)) (passes new cs (others c l)), moved, number-passes p new cs (others c l), number-pass p c l)
-
--- all of them
-those-all : (l : List Mark) → those (byCode (λ _. true)) l ≡ l
-those-all [] = refl
-those-all (m ∷ l) = ap (λ (x : List Mark). m ∷ x) (those-all l)
-
-pub length-passes : (new : ℕ → ℕ) (cs : List ℕ) (l : List Mark) → length (passes new cs l) ≡ length l
-length-passes new cs l = ap length (sym (those-all (passes new cs l))) ∙ number-passes (λ _. true) new cs l ∙ ap length (those-all l)
 
 -- ---- any marks: what is no modifier stays
 abbrev pub plain : ℕ → Bool

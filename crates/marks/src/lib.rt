@@ -10,7 +10,7 @@ ghost use Rattle.refusals.specs.Columns.{lineLimit};
 ghost use Rattle.blocks.specs.Marks.{mark, marks};
 ghost use Rattle.marks.specs.Modifiers.{modifier};
 ghost use Rattle.marks.specs.Passes.{Over, reorderClasses, newClass, front, moves, passes, ranges};
-ghost use Rattle.marks.specs.Reordered.{requestOf, columnsOf, listed, reorderRows, Reordering};
+ghost use Rattle.marks.specs.Reordered.{requestOf, columnsOf, listed, rowsOf, Reordering};
 use letters::Code;
 use refusals::Refusal;
 use refusals::Verdict;
@@ -159,7 +159,7 @@ fn reorder(codes: &mut [u32], classes: &mut [u8], start: usize, low: u8, high: u
 
 // The refusal of a part from `start` to `end` of two columns of `n` and `m` records.
 fn refused(n: usize, m: usize, start: usize, end: usize) -> Verdict
-    ensures { λ r. ⌜ said r ≡ first (reorderRows n m start end) ⌝ }
+    ensures { λ r. ⌜ said r ≡ first (rowsOf n m start end) ⌝ }
 {
     let inside = (start <= end) & (end <= n);
     refusals::even(n, m).sooner(refusals::limited(n, refusals::LINE_LIMIT).sooner(refusals::unless(

@@ -1,7 +1,7 @@
 -- Two columns as one list of marks: its length, an element, a store, its parts, and its columns again.
 -- Assumes nothing.
 use mathlib.Core.Path.{_≡_, refl, sym, ap, ap₂, _∙_}
-use mathlib.Core.List.{List, [], _∷_, _++_}
+use mathlib.Core.List.{List, [], _∷_, _++_, map}
 use Prim.Native.Nat.{ℕ, zero, suc, _+_, _-_, _≤_, _<_}
 use native.Mathlib.Omega.{arith}
 use lib.ListN.{length, getD, take, drop, set, replicate}
@@ -78,3 +78,9 @@ classes-marks (c ∷ cs) (k ∷ ks) e = ap (λ (l : List ℕ). k ∷ l) (classes
 pub marks-columns : (l : List Mark) → marks (codesOf l) (classesOf l) ≡ l
 marks-columns [] = refl
 marks-columns (m ∷ l) = ap (λ (x : List Mark). m ∷ x) (marks-columns l)
+
+-- a column of a list of marks, at a place
+pub column-at : (f : Mark → ℕ) (l : List Mark) (i : ℕ) (d : Mark) → getD (map f l) i (f d) ≡ f (getD l i d)
+column-at f [] i d = refl
+column-at f (m ∷ l) zero d = refl
+column-at f (m ∷ l) (suc i) d = column-at f l i d

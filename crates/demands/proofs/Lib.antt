@@ -6,5 +6,6 @@ pub mod MarksHold
 pub mod NamedLaws
 pub mod ProgramHolds
 pub mod PartLaws
+pub mod RangeLaws
 pub mod ReplacingHolds
 pub mod WholeLaws

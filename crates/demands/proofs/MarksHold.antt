@@ -6,6 +6,7 @@ use Prim.Native.Nat.{_≤_}
 use native.Mathlib.Omega.{arith}
 use lib.Dec.{eqb}
 use lib.ListN.{length}
+use Rattle.refusals.proofs.VerdictLaws.{refused-number}
 use Rattle.refusals.proofs.LeftLaws.{alike, left-number, left-stays, left-smallest, left-accepted}
 use Rattle.marks.specs.declared.Answer.{Answer}
 use Rattle.marks.specs.declared.Answer.the-variants.{Reordered, Refused}
@@ -15,8 +16,9 @@ use Rattle.marks.specs.Passes.{reorderClasses, newClass}
 use Rattle.marks.specs.Reordered.{Request, Columns, Outcome, outcome, listed, part, newPart, reordered, rangesOf, reorderRows, reorderRefusal, numberSaid, rangesSaid, reorderAfter, Reordering}
 use Rattle.marks.proofs.ReorderedLaws.{same-answer, Allowed, allowed, length-part, part-afterwards}
 use Rattle.marks.proofs.UtrLaws.{passes-utr53, passes-arranged, number-passes, plain-passes}
-use Rattle.demands.specs.Marks.{OneAnswer, RefusedStays, SmallestNumber, OnlyThePart, ByUtr53, Arranged, NothingLost, OthersStay, AtMostTwo}
-use Rattle.demands.proofs.PartLaws.{outside-codes, outside-classes, ranges-within}
+use Rattle.demands.specs.Marks.{OneAnswer, RefusedStays, SmallestNumber, OnlyThePart, ByUtr53, Arranged, NothingLost, OthersStay, AtMostTwo, ChangesMerged}
+use Rattle.demands.proofs.PartLaws.{outside-codes, outside-classes}
+use Rattle.demands.proofs.RangeLaws.{ranges-within, columns-outside}
 
 pub one-answer : OneAnswer
 one-answer q c r u d e x y =
@@ -81,3 +83,9 @@ pub at-most-two : AtMostTwo
 at-most-two q c (Reordered m) d x =
     (two-listed m, rw (ranges-left q c (Reordered m) d x refl) (ranges-within q (q .start) reorderClasses (part q c) (omega arith) (omega (arith, length-part q c (accepted q c (Reordered m) d x refl)))))
 at-most-two q c (Refused k) d x = (omega arith, tt)
+
+pub changes-merged : ChangesMerged
+changes-merged q c (Reordered m) d x p h =
+    let e = ranges-left q c (Reordered m) d x refl in
+    rw (columns-left q c (Reordered m) d x refl) (columns-outside q c (accepted q c (Reordered m) d x refl) p (λ u. h (rw e u)))
+changes-merged q c (Refused k) d x p h = rw (refused-stays q c (Refused k) d x (refused-number k) .0) (refl, refl)

@@ -1,18 +1,15 @@
--- What the promises of reordering rest on: outside the part both columns stay (`outside-codes`, `outside-classes`); ranges lie within the marks that the passes go over (`ranges-within`).
+-- What is known of a line whose part was reordered: outside the part both columns stay (`outside-codes`, `outside-classes`).
 -- Assumes nothing.
 use mathlib.Core.Path.{_≡_, sym, ap, _∙_}
-use mathlib.Core.List.{List, [], _∷_, _++_, map}
-use Prim.Native.Nat.{ℕ, _+_, _≤_}
-use native.Mathlib.Omega.{arith}
-use lib.ListN.{length, length-append, length-map}
+use mathlib.Core.List.{map}
+use Prim.Native.Nat.{ℕ}
+use lib.ListN.{length-map}
 use Rattle.laws.proofs.PartLaws.{take-map, drop-map}
 use Rattle.blocks.specs.Marks.{Mark}
 use Rattle.blocks.proofs.MarkLaws.{codes-marks, classes-marks}
-use Rattle.marks.specs.Passes.{Span, merged, skipped, block, others, behind, smaller, moves, ranges}
 use Rattle.marks.specs.Reordered.{Request, Columns, line, newLine, reordered}
-use Rattle.marks.proofs.PassLaws.{pass-parts}
 use Rattle.marks.proofs.ReorderedLaws.{Allowed, before-newLine, behind-newLine, length-newLine}
-use Rattle.demands.specs.Marks.{Outside, AllWithin}
+use Rattle.demands.specs.Marks.{Outside}
 
 module _ (q : Request) (c : Columns) (a : Allowed q c) where
   -- a column, of codes or of classes
@@ -29,27 +26,3 @@ module _ (q : Request) (c : Columns) (a : Allowed q c) where
 
   pub outside-classes : Outside q (c .classes) (reordered q c .classes)
   outside-classes = rw (classes-marks (c .codes) (c .classes) (a .even)) at (outside-column (λ m. m .class))
-
--- ---- the ranges
-length-parts : (k : ℕ) (l : List Mark) → (length (skipped k l) + length (block k l) ≤ length l) × (length (block k l) + length (others k l) ≡ length l)
-length-parts k l =
-    let b = behind (moves k) (behind (smaller k) l) in
-    let whole = ap length (pass-parts k l) in
-    let first = length-append (skipped k l) (block k l ++ b) in
-    let second = length-append (block k l) b in
-    (omega arith, omega (arith, length-append (skipped k l) b))
-
--- the ranges of passes over marks that lie within the part
-pub ranges-within :
-    (q : Request) (start : ℕ) (ks : List ℕ) (l : List Mark) → q .start ≤ start → start + length l ≤ q .end → AllWithin q (ranges start ks l)
-unfolding ranges
-ranges-within q start [] l h e = tt
-ranges-within q start (k ∷ ks) l h e =
-    let p = length-parts k l in
-    go (block k l) (p .0) _ (ranges-within q (start + length (block k l)) ks (others k l) (omega arith) (omega (arith, p .1)))
-  where
-    go :
-        (b : List Mark) → length (skipped k l) + length b ≤ length l → (more : List Span) → AllWithin q more
-        → AllWithin q (merged start (skipped k l) b ++ more)
-    go [] p more w = w
-    go (m ∷ b) p more w = ((omega arith, omega arith, omega arith), w)

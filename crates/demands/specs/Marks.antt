@@ -1,13 +1,14 @@
 -- What reordering the modifier marks of a part of a line promises, of every request, by the call's statement (`Reordering` of crate marks): `OneAnswer`, `RefusedStays`, `SmallestNumber`;
 -- `Outside` that a column stays as it was but for the part, `OnlyThePart`; `ByUtr53`, `Arranged` what the part becomes where its classes do not fall; `withCode`, `NothingLost`, `OthersStay` what holds whatever its classes are;
--- `Within`, `AllWithin`, `AtMostTwo` where the ranges lie.
+-- `Within`, `AllWithin`, `AtMostTwo` where the ranges lie; `Covered`, `ChangesMerged` that they miss nothing.
 -- Assumes nothing.
 use mathlib.Core.Path.{_≡_}
 use mathlib.Core.Bool.{true, not}
 use mathlib.Core.List.{List, [], _∷_}
+use mathlib.Core.Logic.{_⊎_}
 use Prim.Native.Nat.{ℕ, _<_, _≤_}
 use lib.Dec.{eqb}
-use lib.ListN.{length, take, drop}
+use lib.ListN.{length, getD, take, drop}
 use Rattle.laws.specs.Rows.{Has}
 use Rattle.blocks.specs.Marks.{Mark, codesOf}
 use Rattle.marks.specs.declared.Answer.{Answer}
@@ -85,3 +86,14 @@ AllWithin q (s ∷ more) = Within q s × AllWithin q more
 -- The answer has at most two ranges, each within the part.
 abbrev pub AtMostTwo : Type 0
 AtMostTwo = (q : Request) (c : Columns) (r : Answer) (d : Columns) → Reordering q c r d → (length (rangesSaid r) ≤ 2) × AllWithin q (rangesSaid r)
+
+-- a place lies in one of the ranges
+abbrev pub Covered : ℕ → List Span → Type 0
+Covered p [] = ⊥
+Covered p (Over from to ∷ more) = ((from ≤ p) × (p < to)) ⊎ Covered p more
+
+-- What changes lies in a range: a place that is in none keeps its code and its class.
+abbrev pub ChangesMerged : Type 0
+ChangesMerged =
+    (q : Request) (c : Columns) (r : Answer) (d : Columns) → Reordering q c r d
+    → (p : ℕ) → (Covered p (rangesSaid r) → ⊥) → (getD (d .codes) p 0 ≡ getD (c .codes) p 0) × (getD (d .classes) p 0 ≡ getD (c .classes) p 0)

@@ -1,5 +1,5 @@
 -- Parts of a list: a list in three parts (`three-parts`), and each of them again (`take-parts`, `slice-parts`, `drop-parts`); the second of two (`second-part`, `second-put`); a part turned round (`turned`) by exchanges from
--- both ends; and that three turns put the second of two parts before the first (`three-turns`). And parts of what a function makes of each element (`take-map`, `drop-map`).
+-- both ends; and that three turns put the second of two parts before the first (`three-turns`). Lists that differ in one part (`same-behind`, `same-before`). And parts of what a function makes of each element (`take-map`, `drop-map`).
 -- Assumes nothing.
 use mathlib.Core.Path.{_≡_, refl, sym, ap, ap₂, _∙_}
 use mathlib.Core.List.{List, [], _∷_, _++_, map, reverse, reverse-append, reverse-reverse, reverse-cons, append-assoc, append-nil}
@@ -117,6 +117,23 @@ module _ {A : Type 0} where
   -- two parts turned round each, and then the whole
   pub three-turns : (B C : List A) → reverse (reverse B ++ reverse C) ≡ C ++ B
   three-turns B C = reverse-append (reverse B) (reverse C) ∙ ap₂ (λ (r s : List A). r ++ s) (reverse-reverse C) (reverse-reverse B)
+
+-- ---- lists that differ in one part
+module _ {A : Type 0} where
+  -- the last part
+  pub same-behind :
+      (T x y : List A) (p : ℕ) (d : A) → ((k : ℕ) → p ≡ length T + k → getD x k d ≡ getD y k d) → getD (T ++ x) p d ≡ getD (T ++ y) p d
+  same-behind [] x y p d h = h p (omega arith)
+  same-behind (t ∷ T) x y zero d h = refl
+  same-behind (t ∷ T) x y (suc p) d h = same-behind T x y p d (λ k e. h k (omega arith))
+
+  -- the first part
+  pub same-before : (x y E : List A) (k : ℕ) (d : A) → length x ≡ length y → getD x k d ≡ getD y k d → getD (x ++ E) k d ≡ getD (y ++ E) k d
+  same-before [] [] E k d n e = refl
+  same-before [] (b ∷ y) E k d n e = absurd (omega arith)
+  same-before (a ∷ x) [] E k d n e = absurd (omega arith)
+  same-before (a ∷ x) (b ∷ y) E zero d n e = e
+  same-before (a ∷ x) (b ∷ y) E (suc k) d n e = same-before x y E k d (omega arith) e
 
 -- ---- of each element
 module _ {A B : Type 0} (f : A → B) where

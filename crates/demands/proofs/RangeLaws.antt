@@ -1,0 +1,114 @@
+-- The ranges of mark reordering lie within the marks that the passes go over (`ranges-within`), and miss nothing: a place in none of them keeps its mark (`kept-outside`, `line-outside`, `columns-outside`).
+-- Assumes nothing.
+use mathlib.Core.Path.{_≡_, refl, sym, ap, _∙_, subst}
+use mathlib.Core.Bool.{Bool, true, false}
+use mathlib.Core.List.{List, [], _∷_, _++_, map}
+use mathlib.Core.Logic.{inl, inr}
+use Prim.Native.Nat.{ℕ, _+_, _-_, _≤_, _<_}
+use native.Mathlib.Omega.{arith}
+use borrow.Author.Tests.{ltb-true, ltb-false}
+use lib.Dec.{ltb}
+use lib.ListN.{length, getD, take, drop, length-append, length-map}
+use lib.Seq.{getD-append-add, length-take-le}
+use Rattle.laws.proofs.PartLaws.{three-parts, same-behind, same-before}
+use Rattle.blocks.specs.Marks.{Mark, mark, renumber, numbered}
+use Rattle.blocks.proofs.MarkLaws.{length-marks, codes-marks, classes-marks, column-at}
+use Rattle.marks.specs.Passes.{Span, Over, merged, skipped, block, others, behind, smaller, moves, reorderClasses, newClass, passes, ranges}
+use Rattle.marks.specs.Reordered.{Request, Columns, line, part, newPart, newLine, reordered, rangesOf}
+use Rattle.marks.proofs.PassLaws.{pass-parts, length-passes}
+use Rattle.marks.proofs.ReorderedLaws.{Allowed}
+use Rattle.demands.specs.Marks.{AllWithin, Covered}
+
+length-parts : (k : ℕ) (l : List Mark) → (length (skipped k l) + length (block k l) ≤ length l) × (length (block k l) + length (others k l) ≡ length l)
+length-parts k l =
+    let b = behind (moves k) (behind (smaller k) l) in
+    let whole = ap length (pass-parts k l) in
+    let first = length-append (skipped k l) (block k l ++ b) in
+    let second = length-append (block k l) b in
+    (omega arith, omega (arith, length-append (skipped k l) b))
+
+-- the ranges of passes over marks that lie within the part
+pub ranges-within :
+    (q : Request) (start : ℕ) (ks : List ℕ) (l : List Mark) → q .start ≤ start → start + length l ≤ q .end → AllWithin q (ranges start ks l)
+unfolding ranges
+ranges-within q start [] l h e = tt
+ranges-within q start (k ∷ ks) l h e =
+    let p = length-parts k l in
+    go (block k l) (p .0) _ (ranges-within q (start + length (block k l)) ks (others k l) (omega arith) (omega (arith, p .1)))
+  where
+    go :
+        (b : List Mark) → length (skipped k l) + length b ≤ length l → (more : List Span) → AllWithin q more
+        → AllWithin q (merged start (skipped k l) b ++ more)
+    go [] p more w = w
+    go (m ∷ b) p more w = ((omega arith, omega arith, omega arith), w)
+
+-- a place that no range covers keeps its mark
+pub kept-outside :
+    (new : ℕ → ℕ) (start : ℕ) (ks : List ℕ) (l : List Mark) (p : ℕ) (d : Mark) → (Covered (start + p) (ranges start ks l) → ⊥) → getD (passes new ks l) p d ≡ getD l p d
+unfolding passes ranges
+kept-outside new start [] l p d h = refl
+kept-outside new start (k ∷ ks) l p d h = go (block k l) (pass-parts k l) h (λ n. kept-outside new (start + length (block k l)) ks (others k l) n d)
+  where
+    Y : List Mark
+    Y = behind (moves k) (behind (smaller k) l)
+
+    go :
+        (X : List Mark) → skipped k l ++ (X ++ Y) ≡ l
+        → (Covered (start + p) (merged start (skipped k l) X ++ ranges (start + length X) ks (others k l)) → ⊥)
+        → ((n : ℕ) → (Covered (start + length X + n) (ranges (start + length X) ks (others k l)) → ⊥) → getD (passes new ks (others k l)) n d ≡ getD (others k l) n d)
+        → getD (numbered (new k) X ++ passes new ks (others k l)) p d ≡ getD l p d
+    go [] e h on =
+        let same : start + 0 + p ≡ start + p = omega arith in
+        on p (λ u. h (subst (λ (n : ℕ). Covered n (ranges (start + 0) ks (others k l))) same u)) ∙ ap (λ (z : List Mark). getD z p d) e
+    go (m ∷ X) e h on = by (ltb p (length S + x)) refl
+      where
+        S : List Mark
+        S = skipped k l
+
+        x : ℕ
+        x = length (m ∷ X)
+
+        N : List Mark
+        N = numbered (new k) (m ∷ X)
+
+        by : (t : Bool) → ltb p (length S + x) ≡ t → getD (N ++ passes new ks (others k l)) p d ≡ getD l p d
+        by true u = let b : p < length S + x = ltb-true p (length S + x) u in absurd (h (inl (omega arith, omega arith)))
+        by false u =
+            let b : length S + x ≤ p = ltb-false p (length S + x) u in
+            let n : ℕ = p - x - length S in
+            let lN : length N ≡ x = length-map (m ∷ X) (renumber (new k)) in
+            let taken : p ≡ length N + (length S + n) = omega (arith, lN) in
+            let place : start + x + (length S + n) ≡ start + p = omega arith in
+            let whole : p ≡ length S + (x + n) = omega arith in
+            ap (λ (i : ℕ). getD (N ++ passes new ks (others k l)) i d) taken
+            ∙ getD-append-add N (passes new ks (others k l)) (length S + n) d
+            ∙ on (length S + n) (λ u. h (inr (subst (λ (i : ℕ). Covered i (ranges (start + x) ks (others k l))) place u)))
+            ∙ getD-append-add S Y n d
+            ∙ sym
+            (ap (λ (z : List Mark). getD z p d) (sym e)
+            ∙ ap (λ (i : ℕ). getD (S ++ ((m ∷ X) ++ Y)) i d) whole
+            ∙ getD-append-add S ((m ∷ X) ++ Y) (x + n) d
+            ∙ getD-append-add (m ∷ X) Y n d)
+
+-- so of the line
+pub line-outside :
+    (q : Request) (c : Columns) → Allowed q c → (p : ℕ) (d : Mark) → (Covered p (rangesOf q c) → ⊥) → getD (newLine q c) p d ≡ getD (line c) p d
+line-outside q c a p d h =
+    let T : List Mark = take (q .start) (line c) in
+    let E : List Mark = drop (q .end) (line c) in
+    let n : length (line c) ≡ length (c .codes) = length-marks (c .codes) (c .classes) (a .even) in
+    let inside : q .end ≤ length (line c) = omega (arith, a .inside) in
+    let before : length T ≡ q .start = length-take-le (q .start) (line c) (omega (arith, a .order)) in
+    same-behind T (newPart q c ++ E) (part q c ++ E) p d
+    (λ k e. same-before (newPart q c) (part q c) E k d (length-passes (newClass (q .low) (q .high)) reorderClasses (part q c)) (kept-outside (newClass (q .low) (q .high)) (q .start) reorderClasses (part q c) k d (λ u. h (subst (λ (i : ℕ). Covered i (rangesOf q c)) (sym (e ∙ ap (λ (i : ℕ). i + k) before)) u))))
+    ∙ ap (λ (z : List Mark). getD z p d) (sym (three-parts (line c) (q .start) (q .end) (a .order) inside))
+
+-- and of its columns
+pub columns-outside :
+    (q : Request) (c : Columns) → Allowed q c → (p : ℕ) → (Covered p (rangesOf q c) → ⊥)
+    → (getD (reordered q c .codes) p 0 ≡ getD (c .codes) p 0) × (getD (reordered q c .classes) p 0 ≡ getD (c .classes) p 0)
+columns-outside q c a p h =
+    let column : (f : Mark → ℕ) → getD (map f (newLine q c)) p (f (mark 0 0)) ≡ getD (map f (line c)) p (f (mark 0 0)) =
+    λ f. column-at f (newLine q c) p (mark 0 0) ∙ ap f (line-outside q c a p (mark 0 0) h) ∙ sym (column-at f (line c) p (mark 0 0))
+    in
+    (column (λ m. m .code) ∙ ap (λ (l : List ℕ). getD l p 0) (codes-marks (c .codes) (c .classes) (a .even)), column (λ m. m .class) ∙ ap (λ (l : List ℕ). getD l p 0) (classes-marks (c .codes) (c .classes) (a .even)))

@@ -12,12 +12,13 @@
 //!
 //! Always: every sequence of up to five marks of five classes, each with a listed code or another, as a whole line and as a part of one, with
 //! marks of every kind or none before and behind it in turn; every code from 0600 to 08FF, and the listed ones with each of their bits changed, in
-//! both classes.
+//! both classes; lines of 4,096 marks whose blocks are as long, or come as late, as can be.
 
 mod frame;
 mod lines;
 
 use frame::{Case, Cases, Draw};
+use lines::LINE_LIMIT;
 use oracle::ot::shaper::arabic::probe;
 
 const DRIVER: &str = "marks";
@@ -26,6 +27,17 @@ const EVERY_PART: usize = 5;
 const PASSES: [u8; 2] = [220, 230];
 /// below both, of the first pass, between them, of the second pass, above both
 const CLASSES: [u8; 5] = [219, 220, 225, 230, 231];
+/// How many marks of 4,096 are below both classes, of the first, of the second, and above both.
+const FULL: [[usize; 4]; 8] = [
+    [LINE_LIMIT, 0, 0, 0],
+    [0, LINE_LIMIT, 0, 0],
+    [0, 0, LINE_LIMIT, 0],
+    [0, 0, 0, LINE_LIMIT],
+    [1, LINE_LIMIT - 1, 0, 0],
+    [LINE_LIMIT - 1, 1, 0, 0],
+    [LINE_LIMIT - 1, 0, 1, 0],
+    [1365, 1365, 1365, 1],
+];
 /// Classes of one line; the last list is any class.
 const PALETTES: [&[u8]; 6] = [&[30, 220, 230], &[30, 31, 32, 220, 230], &PASSES, &[219, 220, 221, 229, 230, 231], &[25, 26, 30, 220, 230, 255], &[]];
 /// Marks that are not listed, letters, and numbers that are no codes.
@@ -70,6 +82,7 @@ fn fresh(cases: &mut Cases, draw: &mut Draw, count: u64) {
             alone(cases, code ^ (1 << bit));
         }
     }
+    full(cases, draw);
     for _ in 0..count {
         let length = lines::any_length(draw);
         random(cases, draw, length);
@@ -226,9 +239,19 @@ fn alone(cases: &mut Cases, code: u32) {
     }
 }
 
+/// All marks are listed.
+fn full(cases: &mut Cases, draw: &mut Draw) {
+    for counts in FULL {
+        let classes = [219, 220, 230, 231].into_iter().zip(counts).flat_map(|(class, count)| vec![class; count]);
+        let line: Vec<Mark> = classes.map(|class| (any_code(draw, true), class)).collect();
+        write(cases, &line, 0, LINE_LIMIT);
+    }
+}
+
 // ---- random parts
 
-/// A line whose part has its classes in order half of the time. Some lines have hardly a mark that is not listed, so that blocks are long.
+/// A line; about half of the parts of two marks or more have their classes in order, those that are so by chance included. Some lines have hardly
+/// a mark that is not listed, so that blocks are long.
 fn random(cases: &mut Cases, draw: &mut Draw, length: usize) {
     let palette = draw.one_of(&PALETTES);
     let unlisted = draw.one_of(&[0, 1, 8, 40]);
@@ -238,7 +261,7 @@ fn random(cases: &mut Cases, draw: &mut Draw, length: usize) {
         (any_code(draw, listed), class)
     });
     let (start, end) = any_part(draw, length);
-    if draw.once_in(2) {
+    if draw.below(5) < 2 {
         line[start..end].sort_by_key(|&(_, class)| class);
     }
     write(cases, &line, start, end);
@@ -247,11 +270,11 @@ fn random(cases: &mut Cases, draw: &mut Draw, length: usize) {
 /// The whole line, a part at one of its ends, an empty part anywhere, and any part.
 fn any_part(draw: &mut Draw, length: usize) -> Range {
     let (a, b) = (draw.between(0, length), draw.between(0, length));
-    match draw.below(8) {
-        0..=2 => (0, length),
-        3 => (0, a),
-        4 => (a, length),
-        5 => (a, a),
+    match draw.below(16) {
+        0..=6 => (0, length),
+        7 | 8 => (0, a),
+        9 | 10 => (a, length),
+        11 => (a, a),
         _ => (a.min(b), a.max(b)),
     }
 }

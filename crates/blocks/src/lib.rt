@@ -46,13 +46,15 @@ fn fill(classes: &mut [u8], class: u8)
     }
 }
 
-// The marks from `n` on go before the first `n`, and get the class `class`.
+// The marks from `n` on, where there are any, go before the first `n` and get the class `class`.
 pub fn bring(codes: &mut [u32], classes: &mut [u8], n: usize, class: u8)
     requires { ⌜ length (now codes) ≡ length (now classes) ⌝ }
     requires { ⌜ n ≤ length (now codes) ⌝ }
     ensures { λ _. ⌜ marks (now (codes .exit)) (now (classes .exit)) ≡ brought n class (marks (now (codes .entry)) (now (classes .entry))) ⌝ }
 {
-    rotate(codes, classes, n);
-    let k = classes.len() - n;
-    fill(&mut classes[..k], class);
+    if n < codes.len() {
+        rotate(codes, classes, n);
+        let k = classes.len() - n;
+        fill(&mut classes[..k], class);
+    }
 }

@@ -2,7 +2,9 @@
 -- Assumes nothing.
 pub mod ExamplesHold
 pub mod JoiningHolds
+pub mod MarksHold
 pub mod NamedLaws
 pub mod ProgramHolds
+pub mod PartLaws
 pub mod ReplacingHolds
 pub mod WholeLaws

@@ -4,16 +4,23 @@
 use mathlib.Core.Path.{_≡_}
 use mathlib.Core.List.{List, [], _∷_}
 use Prim.Native.Nat.{ℕ}
+use Rattle.refusals.specs.Left.{After}
 use Rattle.letters.specs.Types.{L, R, D, Alaph, DalathRish, T}
 use Rattle.letters.specs.Actions.{isol, fina, fin2, fin3, medi, med2, init, none}
 use Rattle.shapes.specs.Joining.{actionsOf}
+use Rattle.marks.specs.Passes.{Span, Over}
+use Rattle.marks.specs.Reordered.{Request, Columns, requestOf, columnsOf, outcome, reorderAfter}
 
--- the types of the pre-context, the line and the post-context, and the line's actions
+-- joining: the types of the pre-context, the line and the post-context, and the line's actions; reordering of marks: the request, the columns before, the
+-- ranges, and the columns after
 pub data Example : Type 0 where
   Joins : (pre line post : List ℕ) → (actions : List ℕ) → Example
+  Reorders : (asked : Request) → (before : Columns) → (ranges : List Span) → (after : Columns) → Example
 
+-- an example of reordering is of the whole call, which accepts it
 abbrev pub Gives : Example → Type 0
 Gives (Joins pre line post actions) = actionsOf pre line post ≡ actions
+Gives (Reorders asked before ranges after) = reorderAfter asked before ≡ After 0 (outcome ranges after)
 
 abbrev pub Each : List Example → Type 0
 Each [] = Unit
@@ -45,6 +52,12 @@ examples =
     Joins [] (R ∷ Alaph ∷ D ∷ []) [] (isol ∷ isol ∷ isol ∷ []) ∷
     -- D Alaph L: init fina isol
     Joins [] (D ∷ Alaph ∷ L ∷ []) [] (init ∷ fina ∷ isol ∷ []) ∷
+    -- codes 064E 0655 065F 0654, classes 30 220 220 230: 0655 0654 064E 065F; ranges 0 to 2, 1 to 4. The class numbers lent are 25 and 26
+    Reorders
+    (requestOf 0 4 25 26)
+    (columnsOf (0x064E ∷ 0x0655 ∷ 0x065F ∷ 0x0654 ∷ []) (30 ∷ 220 ∷ 220 ∷ 230 ∷ []))
+    (Over 0 2 ∷ Over 1 4 ∷ [])
+    (columnsOf (0x0655 ∷ 0x0654 ∷ 0x064E ∷ 0x065F ∷ []) (25 ∷ 26 ∷ 30 ∷ 220 ∷ [])) ∷
     []
 
 abbrev pub Starred : Type 0

@@ -2,5 +2,6 @@
 -- Assumes nothing.
 pub mod Examples
 pub mod Joining
+pub mod Marks
 pub mod Program
 pub mod Replacing

@@ -168,3 +168,12 @@ sooner-first (Given k t ∷ more) rows r s =
     let low : rise 0 more ≡ true = rise-lower 0 k more (omega arith) (q .1) in
     sym
     (first-among 0 k t (merged more rows) (q .0) (rise-merged 0 more rows low s) ∙ ap (sooner (cond t k 0)) (sym (sooner-first more rows low s)) ∙ sooner-assoc (cond t k 0) (first more) (first rows) ∙ ap (λ (n : ℕ). sooner n (first rows)) (sym (given-before k t more (q .0) (q .1))))
+
+-- so for three tests, in the order of their numbers
+pub three-rows :
+    (i j k : ℕ) (a b c : Bool) → rise 0 (Given i a ∷ Given j b ∷ Given k c ∷ []) ≡ true
+    → sooner (first (Given i a ∷ [])) (sooner (first (Given j b ∷ [])) (first (Given k c ∷ []))) ≡ first (Given i a ∷ Given j b ∷ Given k c ∷ [])
+three-rows i j k a b c r =
+    let p = rise-parts 0 i (Given j b ∷ Given k c ∷ []) r in
+    let q = rise-parts i j (Given k c ∷ []) (p .1) in
+    sym (given-before i a (Given j b ∷ Given k c ∷ []) (p .0) (p .1) ∙ ap (sooner (first (Given i a ∷ []))) (given-before j b (Given k c ∷ []) (omega arith) (q .1)))

@@ -1,5 +1,5 @@
--- The call that reorders marks: `Request` what is asked for; `Columns` what is lent; `Outcome` what is there afterwards; `part`, `newPart`, `reordered`, `rangesOf` what reordering
--- gives; `reorderRows`, `reorderRefusal` when it is refused, and with which number; `listed`, `numberSaid`, `rangesSaid` what an answer says; `reorderAfter`, `Reordering` what the call answers
+-- The call that reorders marks: `Request` what is asked for; `Columns` what is lent; `Outcome` what is there afterwards; `line`, `part`, `newPart`, `newLine`, `reordered`, `rangesOf` what reordering
+-- gives; `rowsOf`, `reorderRows`, `reorderRefusal` when it is refused, and with which number; `span`, `listed`, `numberSaid`, `rangesSaid` what an answer says; `reorderAfter`, `Reordering` what the call answers
 -- and leaves, of every input.
 -- Assumes nothing.
 use mathlib.Core.Path.{_≡_}
@@ -67,17 +67,21 @@ reordered q c = columnsOf (codesOf (newLine q c)) (classesOf (newLine q c))
 abbrev pub rangesOf : Request → Columns → List Span
 rangesOf q c = ranges (q .start) reorderClasses (part q c)
 
--- the rows of document 01's table that reordering uses, for two columns of n and m records, and the number that it is refused with, 0 if it is not
-abbrev pub reorderRows : ℕ → ℕ → ℕ → ℕ → List Row
-reorderRows n m start end =
+-- the rows of document 01's table that reordering uses, for a part from start to end of two columns of n and m records
+abbrev pub rowsOf : ℕ → ℕ → ℕ → ℕ → List Row
+rowsOf n m start end =
     Given 1 (not (eqb n m)) ∷
     Given 2 (not (leb n lineLimit)) ∷
     -- "a range with start above end or end above the length"
     Given 4 (not (leb start end && leb end n)) ∷
     []
 
+-- for a request on columns, and the number that it is refused with, 0 if it is not
+abbrev pub reorderRows : Request → Columns → List Row
+reorderRows q c = rowsOf (length (c .codes)) (length (c .classes)) (q .start) (q .end)
+
 unfoldable pub reorderRefusal : Request → Columns → ℕ
-reorderRefusal q c = first (reorderRows (length (c .codes)) (length (c .classes)) (q .start) (q .end))
+reorderRefusal q c = first (reorderRows q c)
 
 -- what an answer says: "The answer lists the ranges .., at most two"; a refusal has its number and no range
 abbrev pub span : Range → Span

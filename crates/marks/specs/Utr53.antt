@@ -1,5 +1,6 @@
--- What UTR 53 says of modifier combining marks (MCM), for a sequence of marks in canonical order: `Rising` that order; `those` marks by a test; `lead`, `without` the MCM at the beginning of
--- the sequence of a class, and all others; `toBeginning` a step of the algorithm; `utr53` its two steps for these marks; `arranged` what they come to, with the classes renumbered.
+-- What UTR 53 says of modifier combining marks (MCM), for a sequence of marks in canonical order: `Least`, `Rising` that order; `those` marks by a test; `ofClass`, `isModifier` tests of a mark;
+-- `lead`, `without` the MCM at the beginning of the sequence of a class, and all others; `toBeginning` a step of the algorithm; `utr53` its two steps for these marks; `arranged` what they come
+-- to, with the classes renumbered. The step before these, which moves shadda, "rests on modified classes and is not done here".
 -- Assumes nothing.
 use mathlib.Core.Bool.{Bool, cond}
 use mathlib.Core.List.{List, [], _∷_, _++_}

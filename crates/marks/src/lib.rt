@@ -6,10 +6,11 @@ ghost use Prim.Native.Nat.{_+_, _<_, _≤_};
 ghost use lib.ListN.{length, drop};
 ghost use Rattle.laws.specs.Rows.{first};
 ghost use Rattle.refusals.specs.Numbers.{said};
-ghost use Rattle.blocks.specs.Marks.{marks};
+ghost use Rattle.refusals.specs.Columns.{lineLimit};
+ghost use Rattle.blocks.specs.Marks.{mark, marks};
 ghost use Rattle.marks.specs.Modifiers.{modifier};
 ghost use Rattle.marks.specs.Passes.{Over, reorderClasses, newClass, front, moves, passes, ranges};
-ghost use Rattle.marks.specs.Reordered.{requestOf, columnsOf, listed, reorderRows, Reordering};
+ghost use Rattle.marks.specs.Reordered.{requestOf, columnsOf, listed, rowsOf, Reordering};
 use letters::Code;
 use refusals::Refusal;
 use refusals::Verdict;
@@ -67,6 +68,16 @@ fn is_modifier(code: Code) -> bool
     found
 }
 
+// The pass of a class moves a mark of this class if it is listed.
+fn moved(code: Code, own: u8, class: u8) -> bool
+    ensures { λ r. ⌜ r ≡ moves class (mark (code .0) own) ⌝ }
+{
+    if own != class {
+        return false;
+    }
+    is_modifier(code)
+}
+
 // The end of the block of a class that begins at `i`.
 fn block_end(codes: &[u32], classes: &[u8], i: usize, class: u8) -> usize
     requires { ⌜ length (now codes) ≡ length (now classes) ⌝ }
@@ -75,11 +86,8 @@ fn block_end(codes: &[u32], classes: &[u8], i: usize, class: u8) -> usize
 {
     let mut j = i;
     while j < codes.len() {
-        if classes[j] != class {
-            break;
-        }
-        if !is_modifier(Code(codes[j])) {
-            break;
+        if !moved(Code(codes[j]), classes[j], class) {
+            return j;
         }
         j += 1;
     }
@@ -114,6 +122,7 @@ impl Merged {
 // Both passes over a part that begins at `start`.
 fn reorder(codes: &mut [u32], classes: &mut [u8], start: usize, low: u8, high: u8) -> Merged
     requires { ⌜ length (now codes) ≡ length (now classes) ⌝ }
+    requires { ⌜ start + length (now codes) ≤ lineLimit ⌝ }
     ensures merged { λ r. ⌜ listed r ≡ ranges start reorderClasses (marks (now (codes .entry)) (now (classes .entry))) ⌝ }
     ensures moved { λ _. ⌜ marks (now (codes .exit)) (now (classes .exit)) ≡ passes (newClass low high) reorderClasses (marks (now (codes .entry)) (now (classes .entry))) ⌝ }
 {
@@ -150,7 +159,7 @@ fn reorder(codes: &mut [u32], classes: &mut [u8], start: usize, low: u8, high: u
 
 // The refusal of a part from `start` to `end` of two columns of `n` and `m` records.
 fn refused(n: usize, m: usize, start: usize, end: usize) -> Verdict
-    ensures { λ r. ⌜ said r ≡ first (reorderRows n m start end) ⌝ }
+    ensures { λ r. ⌜ said r ≡ first (rowsOf n m start end) ⌝ }
 {
     let inside = (start <= end) & (end <= n);
     refusals::even(n, m).sooner(refusals::limited(n, refusals::LINE_LIMIT).sooner(refusals::unless(

@@ -1,41 +1,38 @@
+-- `blocks::fill` meets its contract: what is filled grows by one class a turn.
+-- Assumes nothing.
+use Prim.Native.Nat.{_-_}
+use borrow.Author.Needs.{needs}
+use lib.ListN.{length}
+use Rattle.blocks.proofs.BlockLaws.{Filling, filling-begins, filling-on, filling-ends}
 use Rattle.blocks.proofs.fill.Statement.{statement}
 use Rattle.blocks.proofs.fill.Tie as tie
-use Rattle.blocks.proofs.fill.Reads as reads
-use Rattle.blocks.proofs.fill.Lts as lts
 
 abbrev Inv-loop : tie.InvT-loop
-Inv-loop classes₀ class i₀ classes i = ?
+Inv-loop classes₀ class i₀ classes i = Filling classes₀ class classes i
 
 abbrev μ-loop : tie.MeasureT-loop
-μ-loop classes₀ class i₀ classes i = ?
+μ-loop classes₀ class i₀ classes i = length classes₀ - i
 
--- src/lib.rt:43:5
 loop-holds : tie.Need-loop-holds Inv-loop μ-loop
-loop-holds c = ?
+loop-holds c = filling-begins _ _
 
--- src/lib.rt:44:9
 slice-write-classes : tie.Need-slice-write-classes Inv-loop μ-loop
-slice-write-classes c = ?
+slice-write-classes c = search needs
 
--- src/lib.rt:45:9
 add-i : tie.Need-add-i Inv-loop μ-loop
-add-i c = ?
+add-i c = search needs
 
--- src/lib.rt:43:5
 loop-less : tie.Need-loop-less Inv-loop μ-loop
-loop-less c = ?
+loop-less c = search needs
 
--- src/lib.rt:43:5
 loop-again : tie.Need-loop-again Inv-loop μ-loop
-loop-again c = ?
+loop-again c = filling-on (c .before .loop .inv) (c .loop-test .taken)
 
--- src/lib.rt:39:1
 same-length : tie.Need-same-length Inv-loop μ-loop
-same-length c = ?
+same-length c = c .before .loop .inv .keep
 
--- src/lib.rt:39:1
 returns : tie.Need-returns Inv-loop μ-loop
-returns c = ?
+returns c = filling-ends (c .before .loop .inv) (c .loop-test .left)
 
 pub fill-spec : {M : Type 1} → statement M
 fill-spec =

@@ -1,77 +1,73 @@
+-- `blocks::rotate` meets its contract: two parts are turned round, and then the whole.
+-- Assumes nothing.
+use mathlib.Core.Path.{_≡_, sym, _∙_}
+use Prim.Native.Nat.{_≤_}
+use native.Mathlib.Omega.{arith}
 use borrow.Author.Needs.{needs}
+use lib.ListN.{length}
+use lib.Seq.{length-take-le}
+use Rattle.blocks.proofs.BlockLaws.{rotated}
 use Rattle.blocks.proofs.rotate.Statement.{statement}
 use Rattle.blocks.proofs.rotate.Tie as tie
-use Rattle.blocks.proofs.rotate.Reads as reads
-use Rattle.blocks.proofs.rotate.Lts as lts
-use Rattle.blocks.proofs.turn.Reads as turn-reads
 
--- src/lib.rt:33:10
+fits : (s : tie.Start) → s .args .n ≤ length (s .args .classes .now)
+fits s = omega (arith, s .pre .0, s .pre .1)
+
 slice-relend-prefix-turn : tie.Need-slice-relend-prefix-turn
 slice-relend-prefix-turn c = search needs
 
--- src/lib.rt:33:10
 slice-aggregate-turn : tie.Need-slice-aggregate-turn
-slice-aggregate-turn c = ?
+slice-aggregate-turn c = sym (length-take-le _ _ (c .before .before .before .pre .1))
 
--- src/lib.rt:33:27
 slice-relend-prefix-turn-2 : tie.Need-slice-relend-prefix-turn-2
 slice-relend-prefix-turn-2 c = search needs
 
--- src/lib.rt:33:27
 slice-aggregate-turn-2 : tie.Need-slice-aggregate-turn-2
-slice-aggregate-turn-2 c = ?
+slice-aggregate-turn-2 c = sym (length-take-le _ _ (fits (c .before .before .before .before)))
 
--- src/lib.rt:33:5
 turn-requires : tie.Need-turn-requires
-turn-requires c κs = ?
+turn-requires c κs = length-take-le _ _ (c .before .before .before .before .pre .1) ∙ sym (length-take-le _ _ (fits (c .before .before .before .before)))
 
--- src/lib.rt:34:10
 mul-turn : tie.Need-mul-turn
 mul-turn c = search needs
 
--- src/lib.rt:34:10
 sub-turn : tie.Need-sub-turn
 sub-turn c = search needs
 
--- src/lib.rt:34:10
 part-turn-start : tie.Need-part-turn-start
 part-turn-start c = search needs
 
--- src/lib.rt:34:10
 part-turn-end : tie.Need-part-turn-end
 part-turn-end c = search needs
 
--- src/lib.rt:34:27
 sub-turn-2 : tie.Need-sub-turn-2
 sub-turn-2 c = search needs
 
--- src/lib.rt:34:27
 part-turn-start-2 : tie.Need-part-turn-start-2
 part-turn-start-2 c = search needs
 
--- src/lib.rt:34:27
 part-turn-end-2 : tie.Need-part-turn-end-2
 part-turn-end-2 c = search needs
 
--- src/lib.rt:34:5
 turn-requires-2 : tie.Need-turn-requires-2
 turn-requires-2 c κs = search needs
 
--- src/lib.rt:35:5
 turn-requires-3 : tie.Need-turn-requires-3
 turn-requires-3 c κs = search needs
 
--- src/lib.rt:28:1
 same-length : tie.Need-same-length
 same-length c = search needs
 
--- src/lib.rt:28:1
 same-length-2 : tie.Need-same-length-2
 same-length-2 c = search needs
 
--- src/lib.rt:28:1
 returns : tie.Need-returns
-returns c = ?
+returns c =
+    let s = c .before .before .before .before .before .before .before .before .before .before .before .before .before .before .before .before .before .before .before .before .before .before .before in
+    let first = c .before .before .before .before .before .before .before .before .before .before .before .before .before .before .before .before .before .before .turn in
+    let second = c .before .before .before .before .before .before .before .before .before .before .before .turn2 in
+    c .before .before .before .before .turn3 .ensures
+    ∙ rotated (s .args .codes .now) (s .args .classes .now) (s .args .n) (first .last .0) (first .last .1 .0) (first .kept .0 ∙ length-take-le _ _ (s .pre .1)) (first .kept .1 .0 ∙ length-take-le _ _ (fits s)) (first .ensures) (second .last .0) (second .last .1 .0) (second .ensures)
 
 pub rotate-spec : {M : Type 1} → statement M
 rotate-spec =

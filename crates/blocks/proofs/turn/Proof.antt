@@ -1,97 +1,81 @@
+-- `blocks::turn` meets its contract: each turn of the loop exchanges the outermost records that are left.
+-- Assumes nothing.
+use Prim.Native.Nat.{_-_}
+use native.Mathlib.Omega.{arith}
+use borrow.Author.Needs.{needs}
+use lib.ListN.{length-set}
+use Rattle.blocks.proofs.BlockLaws.{Turning, turning-begins, turning-on, turning-ends}
 use Rattle.blocks.proofs.turn.Statement.{statement}
 use Rattle.blocks.proofs.turn.Tie as tie
-use Rattle.blocks.proofs.turn.Reads as reads
-use Rattle.blocks.proofs.turn.Lts as lts
 
 abbrev Inv-loop : tie.InvT-loop
-Inv-loop codes₀ classes₀ lo₀ hi₀ codes classes lo hi = ?
+Inv-loop codes₀ classes₀ lo₀ hi₀ codes classes lo hi = Turning codes₀ classes₀ codes classes lo hi
 
 abbrev μ-loop : tie.MeasureT-loop
-μ-loop codes₀ classes₀ lo₀ hi₀ codes classes lo hi = ?
+μ-loop codes₀ classes₀ lo₀ hi₀ codes classes lo hi = hi - lo
 
--- src/lib.rt:15:5
 loop-holds : tie.Need-loop-holds Inv-loop μ-loop
-loop-holds c = ?
+loop-holds c = turning-begins _ _ (c .pre)
 
--- src/lib.rt:15:11
 add-loop : tie.Need-add-loop Inv-loop μ-loop
-add-loop c = ?
+add-loop c = search needs
 
--- src/lib.rt:16:9
 sub-hi : tie.Need-sub-hi Inv-loop μ-loop
-sub-hi c = ?
+sub-hi c = search needs
 
--- src/lib.rt:17:20
 mul-code : tie.Need-mul-code Inv-loop μ-loop
-mul-code c = ?
+mul-code c = search needs
 
--- src/lib.rt:17:20
 slice-read-code : tie.Need-slice-read-code Inv-loop μ-loop
-slice-read-code c = ?
+slice-read-code c = search needs
 
--- src/lib.rt:18:21
 mul-codes : tie.Need-mul-codes Inv-loop μ-loop
-mul-codes c = ?
+mul-codes c = search needs
 
--- src/lib.rt:18:21
 slice-read-codes : tie.Need-slice-read-codes Inv-loop μ-loop
-slice-read-codes c = ?
+slice-read-codes c = search needs
 
--- src/lib.rt:18:9
 mul-codes-2 : tie.Need-mul-codes-2 Inv-loop μ-loop
-mul-codes-2 c = ?
+mul-codes-2 c = search needs
 
--- src/lib.rt:18:9
 slice-write-codes : tie.Need-slice-write-codes Inv-loop μ-loop
-slice-write-codes c = ?
+slice-write-codes c = search needs
 
--- src/lib.rt:19:9
 mul-codes-3 : tie.Need-mul-codes-3 Inv-loop μ-loop
-mul-codes-3 c = ?
+mul-codes-3 c = search needs
 
--- src/lib.rt:19:9
 slice-write-codes-2 : tie.Need-slice-write-codes-2 Inv-loop μ-loop
-slice-write-codes-2 c = ?
+slice-write-codes-2 c = simp length-set (omega arith)
 
--- src/lib.rt:20:21
 slice-read-class : tie.Need-slice-read-class Inv-loop μ-loop
-slice-read-class c = ?
+slice-read-class c = search needs
 
--- src/lib.rt:21:23
 slice-read-classes : tie.Need-slice-read-classes Inv-loop μ-loop
-slice-read-classes c = ?
+slice-read-classes c = search needs
 
--- src/lib.rt:21:9
 slice-write-classes : tie.Need-slice-write-classes Inv-loop μ-loop
-slice-write-classes c = ?
+slice-write-classes c = search needs
 
--- src/lib.rt:22:9
 slice-write-classes-2 : tie.Need-slice-write-classes-2 Inv-loop μ-loop
-slice-write-classes-2 c = ?
+slice-write-classes-2 c = simp length-set (omega arith)
 
--- src/lib.rt:23:9
 add-lo : tie.Need-add-lo Inv-loop μ-loop
-add-lo c = ?
+add-lo c = search needs
 
--- src/lib.rt:15:5
 loop-less : tie.Need-loop-less Inv-loop μ-loop
-loop-less c = ?
+loop-less c = search needs
 
--- src/lib.rt:15:5
 loop-again : tie.Need-loop-again Inv-loop μ-loop
-loop-again c = ?
+loop-again c = let l = c .before .before .before .before in turning-on (l .before .before .pre) (l .before .loop .inv) (l .loop-test .taken)
 
--- src/lib.rt:9:1
 same-length : tie.Need-same-length Inv-loop μ-loop
-same-length c = ?
+same-length c = c .before .loop .inv .codes-keep
 
--- src/lib.rt:9:1
 same-length-2 : tie.Need-same-length-2 Inv-loop μ-loop
-same-length-2 c = ?
+same-length-2 c = c .before .loop .inv .classes-keep
 
--- src/lib.rt:9:1
 returns : tie.Need-returns Inv-loop μ-loop
-returns c = ?
+returns c = turning-ends (c .before .before .pre) (c .before .loop .inv) (c .loop-test .left)
 
 pub turn-spec : {M : Type 1} → statement M
 turn-spec =

@@ -1,21 +1,14 @@
 -- `lines::refused` meets its contract: each test gives a row, and the rows together are the table.
 -- Assumes nothing.
-use mathlib.Core.Path.{_≡_, refl}
-use mathlib.Core.Bool.{Bool, not, _&&_}
-use mathlib.Core.List.{[], _∷_}
+use mathlib.Core.Path.{refl}
+use mathlib.Core.Bool.{not, _&&_}
 use borrow.Author.Needs.{needs}
-use Rattle.laws.specs.Rows.{Given, first, sooner}
-use Rattle.laws.proofs.RowLaws.{sooner-first}
+use Rattle.laws.proofs.RowLaws.{three-rows}
 use Rattle.refusals.specs.Columns.{lineLimit}
 use Rattle.lines.specs.Held.{lettersOf}
 use Rattle.lines.specs.Joined.{evenLetters, contextLimit, limited, knownLetters}
 use Rattle.lines.proofs.refused.Statement.{statement}
 use Rattle.lines.proofs.refused.Tie as tie
-
-table :
-    (a b c : Bool) → sooner (first (Given 1 a ∷ [])) (sooner (first (Given 2 b ∷ [])) (first (Given 3 c ∷ []))) ≡ first (Given 1 a ∷ Given 2 b ∷ Given 3 c ∷ [])
-table a b c =
-    rw (sooner-first (Given 2 b ∷ []) (Given 3 c ∷ []) refl refl) (sooner-first (Given 1 a ∷ []) (Given 2 b ∷ Given 3 c ∷ []) refl refl)
 
 known-letters-requires : tie.Need-known-letters-requires
 known-letters-requires c κs = search needs
@@ -49,8 +42,8 @@ returns c =
     let post = lettersOf (a .post-types .now) (a .post-cats .now) in
     rw
     (c .sooner2 .ensures, c .before .sooner .ensures, c .before .before .unless3 .ensures, c .before .before .before .unless2 .ensures, c .before .before .before .before .unless .ensures, c .before .before .before .before .before .known-letters3 .ensures, c .before .before .before .before .before .before .known-letters2 .ensures, c .before .before .before .before .before .before .before .known-letters .ensures)
-    (table (not (a .line-even && (evenLetters pre && evenLetters post))) (not (limited lineLimit letters && (limited contextLimit pre && limited contextLimit post)))
-    (not (knownLetters letters && (knownLetters pre && knownLetters post))))
+    (three-rows 1 2 3 (not (a .line-even && (evenLetters pre && evenLetters post))) (not (limited lineLimit letters && (limited contextLimit pre && limited contextLimit post)))
+    (not (knownLetters letters && (knownLetters pre && knownLetters post))) refl)
 
 pub refused-spec : {M : Type 1} → statement M
 refused-spec =

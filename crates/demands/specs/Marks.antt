@@ -1,0 +1,87 @@
+-- What reordering the modifier marks of a part of a line promises, of every request, by the call's statement (`Reordering` of crate marks): `OneAnswer`, `RefusedStays`, `SmallestNumber`;
+-- `Outside` that a column stays as it was but for the part, `OnlyThePart`; `ByUtr53`, `Arranged` what the part becomes where its classes do not fall; `withCode`, `NothingLost`, `OthersStay` what holds whatever its classes are;
+-- `Within`, `AllWithin`, `AtMostTwo` where the ranges lie.
+-- Assumes nothing.
+use mathlib.Core.Path.{_≡_}
+use mathlib.Core.Bool.{true, not}
+use mathlib.Core.List.{List, [], _∷_}
+use Prim.Native.Nat.{ℕ, _<_, _≤_}
+use lib.Dec.{eqb}
+use lib.ListN.{length, take, drop}
+use Rattle.laws.specs.Rows.{Has}
+use Rattle.blocks.specs.Marks.{Mark, codesOf}
+use Rattle.marks.specs.declared.Answer.{Answer}
+use Rattle.marks.specs.Passes.{Span, Over}
+use Rattle.marks.specs.Reordered.{Request, Columns, part, reorderRows, numberSaid, rangesSaid, Reordering}
+use Rattle.marks.specs.Utr53.{Rising, those, isModifier, utr53, arranged}
+
+-- Any two answers that the statement allows are equal, and so are the columns that they leave.
+abbrev pub OneAnswer : Type 0
+OneAnswer = (q : Request) (c : Columns) (r u : Answer) (d e : Columns) → Reordering q c r d → Reordering q c u e → (r ≡ u) × (d ≡ e)
+
+-- A request that is refused alters nothing, and has no range.
+abbrev pub RefusedStays : Type 0
+RefusedStays = (q : Request) (c : Columns) (r : Answer) (d : Columns) → Reordering q c r d → (numberSaid r ≡ 0 → ⊥) → (d ≡ c) × (rangesSaid r ≡ [])
+
+-- Where several refusals apply, the smallest number is given: a number that is given is that of a row of the table that applies; and where a row
+-- applies, a number is given, and no larger one. So a request is accepted exactly when no row applies.
+abbrev pub SmallestNumber : Type 0
+SmallestNumber =
+    (q : Request) (c : Columns) (r : Answer) (d : Columns) → Reordering q c r d
+    → ((numberSaid r ≡ 0 → ⊥) → Has (reorderRows q c) (numberSaid r) true) × ((n : ℕ) → Has (reorderRows q c) n true → (0 < numberSaid r) × (numberSaid r ≤ n))
+
+-- ---- an accepted request: the rest of the line
+-- a column l has become m: before start and from end on it is as it was, and it has neither grown nor shrunk
+pub record Outside (q : Request) (l m : List ℕ) : Type 0 where
+  pub before : take (q .start) m ≡ take (q .start) l
+  pub behind : drop (q .end) m ≡ drop (q .end) l
+  pub long : length m ≡ length l
+
+-- Outside the part nothing changes, in neither column.
+abbrev pub OnlyThePart : Type 0
+OnlyThePart =
+    (q : Request) (c : Columns) (r : Answer) (d : Columns) → Reordering q c r d → numberSaid r ≡ 0
+    → Outside q (c .codes) (d .codes) × Outside q (c .classes) (d .classes)
+
+-- ---- an accepted request: the part, where its classes do not fall
+-- Its codes are in the order that UTR 53's two steps for modifier marks give.
+abbrev pub ByUtr53 : Type 0
+ByUtr53 =
+    (q : Request) (c : Columns) (r : Answer) (d : Columns) → Reordering q c r d → numberSaid r ≡ 0
+    → Rising (part q c) → codesOf (part q d) ≡ codesOf (utr53 (part q c))
+
+-- It is the 220 block, the 230 block and the rest, the blocks with the lent class numbers.
+abbrev pub Arranged : Type 0
+Arranged =
+    (q : Request) (c : Columns) (r : Answer) (d : Columns) → Reordering q c r d → numberSaid r ≡ 0
+    → Rising (part q c) → part q d ≡ arranged (q .low) (q .high) (part q c)
+
+-- ---- an accepted request: the part, whatever its classes are
+-- how many marks have a code
+abbrev pub withCode : ℕ → List Mark → ℕ
+withCode code l = length (those (λ m. eqb (m .code) code) l)
+
+-- No mark is lost or doubled: each code stands there as often as before.
+abbrev pub NothingLost : Type 0
+NothingLost =
+    (q : Request) (c : Columns) (r : Answer) (d : Columns) → Reordering q c r d → numberSaid r ≡ 0
+    → (code : ℕ) → withCode code (part q d) ≡ withCode code (part q c)
+
+-- The marks that are no modifiers keep their order among themselves, and their classes.
+abbrev pub OthersStay : Type 0
+OthersStay =
+    (q : Request) (c : Columns) (r : Answer) (d : Columns) → Reordering q c r d → numberSaid r ≡ 0
+    → those (λ m. not (isModifier m)) (part q d) ≡ those (λ m. not (isModifier m)) (part q c)
+
+-- ---- the ranges
+-- a range has a place, and lies within the part
+abbrev pub Within : Request → Span → Type 0
+Within q (Over from to) = (q .start ≤ from) × (from < to) × (to ≤ q .end)
+
+abbrev pub AllWithin : Request → List Span → Type 0
+AllWithin q [] = Unit
+AllWithin q (s ∷ more) = Within q s × AllWithin q more
+
+-- The answer has at most two ranges, each within the part.
+abbrev pub AtMostTwo : Type 0
+AtMostTwo = (q : Request) (c : Columns) (r : Answer) (d : Columns) → Reordering q c r d → (length (rangesSaid r) ≤ 2) × AllWithin q (rangesSaid r)

@@ -1,0 +1,293 @@
+-- Both passes, as the walk goes: what is done, what was skipped, what is left (`Walking`). How it begins, skips, takes a block and ends (`walk-begins`, `walk-skips`,
+-- `walk-takes`, `walk-over`, `walk-breaks`); and the skipping, mark by mark (`Skipping`).
+-- Assumes nothing.
+use mathlib.Core.Path.{_≡_, refl, sym, ap, ap₂, _∙_, subst}
+use mathlib.Core.Bool.{Bool, true, false, cond}
+use mathlib.Core.List.{List, [], _∷_, _++_, append-assoc, append-nil}
+use Prim.Native.Nat.{ℕ, zero, suc, _+_, _-_, _≤_, _<_}
+use native.Mathlib.Omega.{arith}
+use borrow.Rule.Slice.PartMut.{mid-len, same-len-mid}
+use lib.Dec.{ltb}
+use lib.ListN.{length, getD, take, drop, length-append, length-map, drop-of-length-le}
+use lib.Seq.{slice, slice-empty, length-slice, take-suc, drop-append-le, length-take-le, take-at, drop-at}
+use native.Mathlib.Numerals.{add-one}
+use Rattle.laws.proofs.LoopLaws.{drop-next}
+use Rattle.laws.proofs.PartLaws.{drop-parted}
+use Rattle.blocks.proofs.MarkLaws.{nothing, length-marks, class-at}
+use Rattle.blocks.proofs.BlockLaws.{marks-mid, marks-put}
+use Rattle.blocks.specs.Marks.{Mark, marks, renumber, numbered, brought}
+use Rattle.marks.specs.declared.Merged.{Merged}
+use Rattle.marks.specs.declared.Merged.the-variants.{Nothing}
+use Rattle.marks.specs.Passes.{front, behind, moves, reorderClasses, newClass, passes, Span, Over, merged, ranges}
+use Rattle.marks.specs.Reordered.{listed}
+use Rattle.marks.proofs.PassLaws.{Below, below-raise, below-append, Low, Stops, front-behind, front-fits, passes-is, ranges-is, passes-low, ranges-low, merged-is}
+
+-- the class of a pass
+abbrev pub classAt : ℕ → ℕ
+classAt pass = getD reorderClasses pass 0
+
+classes-next : (pass : ℕ) → pass < 2 → drop pass reorderClasses ≡ classAt pass ∷ drop (pass + 1) reorderClasses
+classes-next pass q = drop-next reorderClasses pass 0 q
+
+low-append : (cs : List ℕ) (a b : List Mark) → Low cs a → Low cs b → Low cs (a ++ b)
+low-append [] a b p q = tt
+low-append (c ∷ cs) a b p q = (below-append c a b (p .0) (q .0), low-append cs a b (p .1) (q .1))
+
+-- what is below the class of a pass is below those of the passes to come
+low-all : (pass : ℕ) (l : List Mark) → pass < 2 → Below (classAt pass) l → Low (drop pass reorderClasses) l
+low-all zero l q p = (p, (below-raise l (omega arith) p, tt))
+low-all (suc zero) l q p = (p, tt)
+low-all (suc (suc pass)) l q p = absurd (omega arith)
+
+-- ---- the skipping
+-- from i₀ to i all marks are of a smaller class
+pub record Skipping (M : List Mark) (class i₀ i : ℕ) : Type 0 where
+  pub order : i₀ ≤ i
+  pub fits : i ≤ length M
+  pub below : Below class (slice i₀ i M)
+
+pub skipping-begins : (M : List Mark) (class i : ℕ) → i ≤ length M → Skipping M class i i
+skipping-begins M class i h = record { order = omega arith; fits = h; below = rw (slice-empty i M) tt }
+
+pub skipping-on :
+    {M : List Mark} {class i₀ i : ℕ} (d : Mark) → i < length M → getD M i d .class < class → Skipping M class i₀ i → Skipping M class i₀ (i + 1)
+skipping-on {M} {class} {i₀} {i} d h l s =
+    let o : i₀ ≤ i = s .order in
+    let e : slice i₀ (i + 1) M ≡ slice i₀ i M ++ (getD M i d ∷ []) =
+    rw (add-one i, take-suc M i d h) (drop-append-le i₀ (take i M) (getD M i d ∷ []) (rw (length-take-le i M (omega arith)) o))
+    in
+    record { order = omega arith; fits = omega arith; below = rw e (below-append class (slice i₀ i M) (getD M i d ∷ []) (s .below) (l, tt)) }
+
+-- a mark whose class is not smaller
+pub stops-at : (M : List Mark) (class i : ℕ) (d : Mark) → i < length M → class ≤ getD M i d .class → Stops class (drop i M)
+stops-at M class i d h l = rw (drop-next M i d h) l
+
+-- ---- the walk
+pub record Walking (new : ℕ → ℕ) (start : ℕ) (M₀ M : List Mark) (found : List Span) (from i pass : ℕ) : Type 0 where
+  pub done : List Mark
+  pub skips : List Mark
+  pub rest : List Mark
+  pub is : M ≡ done ++ (skips ++ rest)
+  pub at-from : length done ≡ from
+  pub at-i : from + length skips ≡ i
+  pub low : Low (drop pass reorderClasses) skips
+  pub whole : passes new reorderClasses M₀ ≡ done ++ passes new (drop pass reorderClasses) (skips ++ rest)
+  pub spans : ranges start reorderClasses M₀ ≡ found ++ ranges (start + from) (drop pass reorderClasses) (skips ++ rest)
+  pub few : length found ≤ pass
+
+pub walk-begins : (new : ℕ → ℕ) (start : ℕ) (M : List Mark) → Walking new start M M [] 0 0 0
+walk-begins new start M =
+    let z : start ≡ start + 0 = omega arith in
+    record {
+      done = [];
+      skips = [];
+      rest = M;
+      is = refl;
+      at-from = refl;
+      at-i = refl;
+      low = (tt, (tt, tt));
+      whole = refl;
+      spans = ap (λ (s : ℕ). ranges s reorderClasses M) z;
+      few = omega arith;
+    }
+
+module _ {new : ℕ → ℕ} {start : ℕ} {M₀ M : List Mark} {found : List Span} {from i pass : ℕ} (w : Walking new start M₀ M found from i pass) where
+  -- the classes of the passes behind this one
+  abbrev cs : List ℕ
+  cs = drop (pass + 1) reorderClasses
+
+  -- where the marks lie
+  begun : length (w .done ++ w .skips) ≡ i
+  begun = length-append (w .done) (w .skips) ∙ omega (arith, w .at-from, w .at-i)
+
+  rest-is : drop i M ≡ w .rest
+  rest-is = ap (drop i) (w .is ∙ sym (append-assoc (w .done) (w .skips) (w .rest))) ∙ drop-at (w .done ++ w .skips) (w .rest) i begun
+
+  from-is : drop from M ≡ w .skips ++ w .rest
+  from-is = ap (drop from) (w .is) ∙ drop-at (w .done) (w .skips ++ w .rest) from (w .at-from)
+
+  done-is : take from M ≡ w .done
+  done-is = ap (take from) (w .is) ∙ take-at (w .done) (w .skips ++ w .rest) from (w .at-from)
+
+  pub walk-order : from ≤ i
+  walk-order = omega (arith, w .at-i)
+
+  -- marks of smaller classes are skipped
+  pub walk-skips : (k : ℕ) → pass < 2 → Skipping M (classAt pass) i k → Walking new start M₀ M found from k pass
+  walk-skips k q s =
+      let o : i ≤ k = s .order in
+      let S : List Mark = slice i k M in
+      let parts : w .rest ≡ S ++ drop k M = sym rest-is ∙ drop-parted M i k o (s .fits) in
+      let l : length S ≡ k - i = length-slice i k M (s .fits) in
+      let joined : w .skips ++ w .rest ≡ (w .skips ++ S) ++ drop k M = ap (λ (r : List Mark). w .skips ++ r) parts ∙ sym (append-assoc (w .skips) S (drop k M)) in
+      record {
+        done = w .done;
+        skips = w .skips ++ S;
+        rest = drop k M;
+        is = w .is ∙ ap (λ (r : List Mark). w .done ++ r) joined;
+        at-from = w .at-from;
+        at-i = ap (λ (n : ℕ). from + n) (length-append (w .skips) S) ∙ omega (arith, w .at-i);
+        low = low-append (drop pass reorderClasses) (w .skips) S (w .low) (low-all pass S q (s .below));
+        whole = w .whole ∙ ap (λ (r : List Mark). w .done ++ passes new (drop pass reorderClasses) r) joined;
+        spans = w .spans ∙ ap (λ (r : List Mark). found ++ ranges (start + from) (drop pass reorderClasses) r) joined;
+        few = w .few;
+      }
+
+  -- the block at this spot, which may be empty, goes to the front of what is left
+  pub walk-takes :
+      pass < 2 → Stops (classAt pass) (drop i M) → (j : ℕ) → j ≡ i + length (front (moves (classAt pass)) (drop i M))
+      → (x : List Mark) → x ≡ brought (i - from) (new (classAt pass)) (take (j - from) (drop from M)) → (M₂ : List Mark) → M₂ ≡ take from M ++ (x ++ drop (j - from) (drop from M))
+      → (found₂ : List Span) → found₂ ≡ found ++ cond (ltb i j) (Over (start + from) (start + j) ∷ []) []
+      → Walking new start M₀ M₂ found₂ (from + (j - i)) j (pass + 1)
+  walk-takes q s j e x b M₂ m found₂ f =
+      let c : ℕ = classAt pass in
+      let D : List Mark = w .done in
+      let S : List Mark = w .skips in
+      let X : List Mark = front (moves c) (w .rest) in
+      let Y : List Mark = behind (moves c) (w .rest) in
+      let N : List Mark = numbered (new c) X in
+      let stops : Stops c (w .rest) = subst (Stops c) rest-is s in
+      let low : Below c S × Low cs S = subst (λ (l : List ℕ). Low l S) (classes-next pass q) (w .low) in
+      let parted : X ++ Y ≡ w .rest = front-behind (moves c) (w .rest) in
+      let at-j : i + length X ≡ j = ap (λ (l : List Mark). i + length (front (moves c) l)) (sym rest-is) ∙ sym e in
+      let lS : length S ≡ i - from = omega (arith, w .at-i) in
+      let lSX : length (S ++ X) ≡ j - from = length-append S X ∙ omega (arith, w .at-i) in
+      let lN : length N ≡ length X = length-map X (renumber (new c)) in
+      let left : drop from M ≡ (S ++ X) ++ Y = from-is ∙ ap (λ (l : List Mark). S ++ l) (sym parted) ∙ sym (append-assoc S X Y) in
+      let taken : take (j - from) (drop from M) ≡ S ++ X = ap (take (j - from)) left ∙ take-at (S ++ X) Y (j - from) lSX in
+      let behind-it : drop (j - from) (drop from M) ≡ Y = ap (drop (j - from)) left ∙ drop-at (S ++ X) Y (j - from) lSX in
+      let came : x ≡ N ++ S =
+      b
+      ∙ ap (brought (i - from) (new c)) taken
+      ∙ ap₂ (λ (u v : List Mark). numbered (new c) u ++ v) (drop-at S X (i - from) lS) (take-at S X (i - from) lS)
+      in
+      let wide : start + from + (length S + length X) ≡ start + j = omega (arith, w .at-i) in
+      let on : start + from + length X ≡ start + (from + (j - i)) = omega arith in
+      let spanned : merged (start + from) S X ≡ cond (ltb i j) (Over (start + from) (start + j) ∷ []) [] =
+      merged-is (start + from) i j S X at-j ∙ ap (λ (n : ℕ). cond (ltb i j) (Over (start + from) n ∷ []) []) wide
+      in
+      record {
+        done = D ++ N;
+        skips = S;
+        rest = Y;
+        is =
+            m
+            ∙ ap₂ (λ (u v : List Mark). u ++ v) done-is (ap₂ (λ (u v : List Mark). u ++ v) came behind-it ∙ append-assoc N S Y)
+            ∙ sym (append-assoc D N (S ++ Y));
+        at-from = length-append D N ∙ omega (arith, w .at-from);
+        at-i = omega (arith, w .at-i);
+        low = low .1;
+        whole =
+            w .whole
+            ∙ ap (λ (l : List ℕ). D ++ passes new l (S ++ w .rest)) (classes-next pass q)
+            ∙ ap (λ (l : List Mark). D ++ l) (passes-is c S (w .rest) (low .0) stops new cs)
+            ∙ sym (append-assoc D N (passes new cs (S ++ Y)));
+        spans =
+            w .spans
+            ∙ ap (λ (l : List ℕ). found ++ ranges (start + from) l (S ++ w .rest)) (classes-next pass q)
+            ∙ ap (λ (l : List Span). found ++ l)
+            (ranges-is c S (w .rest) (low .0) stops (start + from) cs ∙ ap₂ (λ (u : List Span) (n : ℕ). u ++ ranges n cs (S ++ Y)) spanned on)
+            ∙ sym (append-assoc found (cond (ltb i j) (Over (start + from) (start + j) ∷ []) []) (ranges (start + (from + (j - i))) cs (S ++ Y)))
+            ∙ ap (λ (l : List Span). l ++ ranges (start + (from + (j - i))) cs (S ++ Y)) (sym f);
+        few = rw (f, length-append) (more (ltb i j));
+      }
+    where
+      more : (t : Bool) → length found + length (cond t (Over (start + from) (start + j) ∷ []) []) ≤ pass + 1
+      more true = omega (arith, w .few)
+      more false = omega (arith, w .few)
+
+  -- what is left is smaller than the classes of all passes to come
+  ends : Low (drop pass reorderClasses) (w .skips ++ w .rest) → (found ≡ ranges start reorderClasses M₀) × (M ≡ passes new reorderClasses M₀)
+  ends low =
+      (sym (w .spans ∙ ap (λ (l : List Span). found ++ l) (ranges-low (start + from) (drop pass reorderClasses) (w .skips ++ w .rest) low) ∙ append-nil found), w .is ∙ sym (w .whole ∙ ap (λ (l : List Mark). w .done ++ l) (passes-low new (drop pass reorderClasses) (w .skips ++ w .rest) low)))
+
+  -- there are no passes to come
+  pub walk-over : 2 ≤ pass → (found ≡ ranges start reorderClasses M₀) × (M ≡ passes new reorderClasses M₀)
+  walk-over h = ends (subst (λ (l : List ℕ). Low l (w .skips ++ w .rest)) (sym (drop-of-length-le reorderClasses {i = pass} h)) tt)
+
+  -- all marks are skipped: both passes are left at once
+  pub walk-breaks : i ≡ length M → (found ≡ ranges start reorderClasses M₀) × (M ≡ passes new reorderClasses M₀)
+  walk-breaks e =
+      let bare : w .skips ++ w .rest ≡ w .skips =
+      ap (λ (l : List Mark). w .skips ++ l) (sym rest-is ∙ drop-of-length-le M {i = i} (omega arith)) ∙ append-nil (w .skips)
+      in
+      ends (subst (Low (drop pass reorderClasses)) (sym bare) (w .low))
+
+-- ---- the walk in two columns
+pub record Walked (low high start : ℕ) (codes₀ classes₀ codes classes : List ℕ) (found : Merged) (from i pass : ℕ) : Type 0 where
+  pub codes-keep : length codes ≡ length codes₀
+  pub classes-keep : length classes ≡ length classes₀
+  pub fits : i ≤ length codes
+  pub walk : Walking (newClass low high) start (marks codes₀ classes₀) (marks codes classes) (listed found) from i pass
+
+pub walked-begins :
+    (low high start : ℕ) (codes classes : List ℕ) → Walked low high start codes classes codes classes Nothing 0 0 0
+walked-begins low high start codes classes =
+    record { codes-keep = refl; classes-keep = refl; fits = omega arith; walk = walk-begins (newClass low high) start (marks codes classes) }
+
+module _ {low high start : ℕ} {codes₀ classes₀ codes classes : List ℕ} {found : Merged} {from i pass : ℕ} (e₀ : length codes₀ ≡ length classes₀)
+    (w : Walked low high start codes₀ classes₀ codes classes found from i pass) where
+  pub walked-even : length codes ≡ length classes
+  walked-even = w .codes-keep ∙ e₀ ∙ sym (w .classes-keep)
+
+  pub walked-length : length (marks codes classes) ≡ length codes
+  walked-length = length-marks codes classes walked-even
+
+  pub walked-skipping : (class : ℕ) → Skipping (marks codes classes) class i i
+  walked-skipping class = skipping-begins (marks codes classes) class i (rw walked-length (w .fits))
+
+  pub walked-skipped : (class k : ℕ) → Skipping (marks codes classes) class i k → k ≤ length codes
+  walked-skipped class k s = rw (← walked-length) (s .fits)
+
+  -- where the end is not reached, there is a mark at hand
+  pub walked-inside : (class k : ℕ) → Skipping (marks codes classes) class i k → (k ≡ length codes₀ → ⊥) → k < length codes
+  walked-inside class k s d = omega (arith, walked-skipped class k s, d, w .codes-keep)
+
+  -- it is skipped
+  pub walked-on :
+      (class k : ℕ) → k < length codes → getD classes k 0 < class → Skipping (marks codes classes) class i k → Skipping (marks codes classes) class i (k + 1)
+  walked-on class k h l = skipping-on nothing (rw walked-length h) (rw (class-at codes classes k h walked-even) l)
+
+  -- the skipping stops at k, and the block of the pass's class that begins there ends at j
+  module _ (k j : ℕ) (q : pass < 2) (skips : Skipping (marks codes classes) (classAt pass) i k) (e : j ≡ k + length (front (moves (classAt pass)) (drop k (marks codes classes)))) where
+    stands : Walking (newClass low high) start (marks codes₀ classes₀) (marks codes classes) (listed found) from k pass
+    stands = walk-skips (w .walk) k q skips
+
+    pub walked-from : from ≤ k
+    walked-from = walk-order stands
+
+    pub walked-block : k ≤ j
+    walked-block = omega (arith, e)
+
+    pub walked-fits : j ≤ length codes
+    walked-fits = rw (e, ← walked-length) (front-fits (moves (classAt pass)) (marks codes classes) k (skips .fits))
+
+    -- the block is brought to the front of what is left
+    pub walked-takes :
+        k < length codes → classAt pass ≤ getD classes k 0 → (x y : List ℕ)
+        → length x ≡ length (take (j - from) (drop from codes)) → length y ≡ length (take (j - from) (drop from classes)) → (new : ℕ) → new ≡ newClass low high (classAt pass)
+        → marks x y ≡ brought (k - from) new (marks (take (j - from) (drop from codes)) (take (j - from) (drop from classes)))
+        → (more : Merged) → listed more ≡ listed found ++ cond (ltb k j) (Over (start + from) (start + j) ∷ []) []
+        → Walked low high start codes₀ classes₀
+        (take from codes ++ (x ++ drop (j - from) (drop from codes)))
+        (take from classes ++ (y ++ drop (j - from) (drop from classes)))
+        more (from + (j - k)) j (pass + 1)
+    walked-takes h l x y lx ly new n b more f =
+        let mid : (column : List ℕ) → length column ≡ length codes → length (take (j - from) (drop from column)) ≡ j - from = λ column same. mid-len from j column (rw same walked-fits) in
+        let put : length (take from codes ++ (x ++ drop (j - from) (drop from codes))) ≡ length codes = same-len-mid from (j - from) codes x lx in
+        let o : from ≤ k = walked-from in
+        let stops : Stops (classAt pass) (drop k (marks codes classes)) =
+        stops-at (marks codes classes) (classAt pass) k nothing (rw walked-length h) (rw (class-at codes classes k h walked-even) l)
+        in
+        let came : marks x y ≡ brought (k - from) (newClass low high (classAt pass)) (take (j - from) (drop from (marks codes classes))) =
+        b ∙ ap₂ (brought (k - from)) n (marks-mid from (j - from) codes classes)
+        in
+        record {
+          codes-keep = put ∙ w .codes-keep;
+          classes-keep = same-len-mid from (j - from) classes y ly ∙ w .classes-keep;
+          fits = rw put walked-fits;
+          walk =
+              walk-takes stands q stops j e (marks x y) came _
+              (marks-put from (j - from) codes classes x y (omega arith) walked-even (lx ∙ mid codes refl ∙ sym (ly ∙ mid classes (sym walked-even))))
+              (listed more) f;
+        }

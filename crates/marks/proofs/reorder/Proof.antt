@@ -1,0 +1,195 @@
+-- `marks::reorder` meets its contract: the walk skips, takes a block, goes on with the next pass, and ends with the passes or at the end of the part.
+-- Assumes nothing.
+use mathlib.Core.Path.{_≡_, sym, _∙_}
+use Prim.Native.Nat.{_+_, _-_, _<_, _≤_}
+use native.Mathlib.Omega.{arith}
+use borrow.Author.Needs.{needs}
+use borrow.Rule.Slice.PartMut.{mid-len}
+use lib.ListN.{length}
+use Rattle.refusals.specs.Columns.{lineLimit}
+use Rattle.blocks.specs.Marks.{marks}
+use Rattle.marks.proofs.WalkLaws.{Skipping, walk-skips, walk-over, walk-breaks, Walked, walked-begins, walked-even, walked-length, walked-skipping, walked-skipped, walked-inside, walked-on, walked-from, walked-block, walked-fits, walked-takes}
+use Rattle.marks.proofs.reorder.Statement.{statement}
+use Rattle.marks.proofs.reorder.Tie as tie
+
+abbrev Inv-loop : tie.InvT-loop
+Inv-loop codes classes start low high end merged from i₀ pass class i = Skipping (marks codes classes) class i₀ i
+
+abbrev μ-loop : tie.MeasureT-loop
+μ-loop codes classes start low high end merged from i₀ pass class i = length codes - i
+
+abbrev Inv-passes : tie.InvT-passes
+Inv-passes codes₀ classes₀ start low high end merged₀ from₀ i₀ pass₀ codes classes merged from i pass = Walked low high start codes₀ classes₀ codes classes merged from i pass
+
+abbrev μ-passes : tie.MeasureT-passes
+μ-passes codes₀ classes₀ start low high end merged₀ from₀ i₀ pass₀ codes classes merged from i pass = 2 - pass
+
+-- the mark at hand lies in the part
+inside : (c : tie.In-loop Inv-loop μ-loop Inv-passes μ-passes) → c .before .loop .i < length (c .before .before .before .passes .codes)
+inside c = let p = c .before .before .before in walked-inside (p .before .before .before .pre .0) (p .passes .inv) _ _ (c .before .loop .inv) (c .loop-test .left)
+
+passes-holds : tie.Need-passes-holds Inv-loop μ-loop Inv-passes μ-passes
+passes-holds c = walked-begins _ _ _ _ _
+
+array-read-class : tie.Need-array-read-class Inv-loop μ-loop Inv-passes μ-passes
+array-read-class c = search needs
+
+loop-holds : tie.Need-loop-holds Inv-loop μ-loop Inv-passes μ-passes
+loop-holds c = walked-skipping (c .before .before .before .before .pre .0) (c .before .passes .inv) _
+
+slice-read-if1 : tie.Need-slice-read-if1 Inv-loop μ-loop Inv-passes μ-passes
+slice-read-if1 c = let p = c .before .before .before .before in rw (← walked-even (p .before .before .before .pre .0) (p .passes .inv)) (inside (c .before))
+
+add-i : tie.Need-add-i Inv-loop μ-loop Inv-passes μ-passes
+add-i c = omega (arith, inside (c .before .before))
+
+loop-less : tie.Need-loop-less Inv-loop μ-loop Inv-passes μ-passes
+loop-less c = search (needs, inside (c .before .before))
+
+loop-again : tie.Need-loop-again Inv-loop μ-loop Inv-passes μ-passes
+loop-again c = let p = c .before .before .before .before .before in walked-on (p .before .before .before .pre .0) (p .passes .inv) _ _ (inside (c .before .before)) (c .if1 .left) (c .before .before .before .loop .inv)
+
+block-end-requires : tie.Need-block-end-requires Inv-loop μ-loop Inv-passes μ-passes
+block-end-requires c κs = let p = c .before .before .before .before .before .before .before in (walked-even (p .before .before .before .pre .0) (p .passes .inv), walked-skipped (p .before .before .before .pre .0) (p .passes .inv) _ _ (c .before .before .before .before .before .loop .inv))
+
+-- the block found: it ends in the part, and all places are small
+even : (c : tie.After-block-end Inv-loop μ-loop Inv-passes μ-passes) → let p = c .before .before .before .before .before .before .before .before .passes in length (p .codes) ≡ length (p .classes)
+even c = let p = c .before .before .before .before .before .before .before .before in walked-even (p .before .before .before .pre .0) (p .passes .inv)
+
+reached :
+    (c : tie.After-block-end Inv-loop μ-loop Inv-passes μ-passes)
+    → let p = c .before .before .before .before .before .before .before .before in
+    (p .passes .from ≤ c .before .before .before .before .before .before .loop .i) × (c .before .before .before .before .before .before .loop .i ≤ c .block-end .result) × (c .block-end .result ≤ length (p .passes .codes)) × (p .before .before .before .args .start + length (p .passes .codes) ≤ lineLimit)
+reached c =
+    let p = c .before .before .before .before .before .before .before .before in
+    let e = p .before .before .before .pre .0 in
+    let w = p .passes .inv in
+    let q = c .before .before .before .before .before .before .before .passes-test .taken in
+    let s = c .before .before .before .before .before .before .loop .inv in
+    let b = c .block-end .ensures in
+    (walked-from e w _ _ q s b, walked-block e w _ _ q s b, walked-fits e w _ _ q s b, rw (w .codes-keep) (p .before .before .before .pre .1))
+
+mul-bring : tie.Need-mul-bring Inv-loop μ-loop Inv-passes μ-passes
+mul-bring c = let r = reached (c) in omega (arith, r .0, r .1, r .2, r .3)
+
+sub-bring : tie.Need-sub-bring Inv-loop μ-loop Inv-passes μ-passes
+sub-bring c = let r = reached (c) in omega (arith, r .0, r .1)
+
+part-bring-start : tie.Need-part-bring-start Inv-loop μ-loop Inv-passes μ-passes
+part-bring-start c = let r = reached (c) in omega (arith, r .0, r .1)
+
+part-bring-end : tie.Need-part-bring-end Inv-loop μ-loop Inv-passes μ-passes
+part-bring-end c = reached (c) .2
+
+sub-bring-2 : tie.Need-sub-bring-2 Inv-loop μ-loop Inv-passes μ-passes
+sub-bring-2 c = let r = reached (c .before) in omega (arith, r .0, r .1)
+
+part-bring-start-2 : tie.Need-part-bring-start-2 Inv-loop μ-loop Inv-passes μ-passes
+part-bring-start-2 c = let r = reached (c .before) in omega (arith, r .0, r .1)
+
+part-bring-end-2 : tie.Need-part-bring-end-2 Inv-loop μ-loop Inv-passes μ-passes
+part-bring-end-2 c = rw (← even (c .before)) (reached (c .before) .2)
+
+sub-bring-3 : tie.Need-sub-bring-3 Inv-loop μ-loop Inv-passes μ-passes
+sub-bring-3 c = reached (c .before .before) .0
+
+new-class-requires : tie.Need-new-class-requires Inv-loop μ-loop Inv-passes μ-passes
+new-class-requires c κs = search needs
+
+bring-requires : tie.Need-bring-requires Inv-loop μ-loop Inv-passes μ-passes
+bring-requires c κs =
+    let r = reached (c .before .before .before) in
+    let codes = mid-len (c .before .before .before .before .before .before .before .before .before .before .before .passes .from) (c .before .before .before .block-end .result) (c .before .before .before .before .before .before .before .before .before .before .before .passes .codes) (r .2) in
+    let classes = mid-len (c .before .before .before .before .before .before .before .before .before .before .before .passes .from) (c .before .before .before .block-end .result) (c .before .before .before .before .before .before .before .before .before .before .before .passes .classes) (rw (← even (c .before .before .before)) (r .2)) in
+    (codes ∙ sym classes, rw codes (omega (arith, r .1)))
+
+add-with : tie.Need-add-with Inv-loop μ-loop Inv-passes μ-passes
+add-with c = let r = reached (c .before .before .before .before .before .before .before .before) in omega (arith, r .0, r .1, r .2, r .3)
+
+add-with-2 : tie.Need-add-with-2 Inv-loop μ-loop Inv-passes μ-passes
+add-with-2 c = let r = reached (c .before .before .before .before .before .before .before .before) in omega (arith, r .2, r .3)
+
+with-requires : tie.Need-with-requires Inv-loop μ-loop Inv-passes μ-passes
+with-requires c κs = omega (arith, c .before .before .before .before .before .before .before .before .before .before .before .before .before .before .before .before .passes .inv .walk .few, c .before .before .before .before .before .before .before .before .before .before .before .before .before .before .before .passes-test .taken)
+
+sub-from : tie.Need-sub-from Inv-loop μ-loop Inv-passes μ-passes
+sub-from c = reached (c .before .before .before .before .before .before .before .before .before) .1
+
+add-from : tie.Need-add-from Inv-loop μ-loop Inv-passes μ-passes
+add-from c = let r = reached (c .before .before .before .before .before .before .before .before .before) in omega (arith, r .0, r .1, r .2, r .3)
+
+add-pass : tie.Need-add-pass Inv-loop μ-loop Inv-passes μ-passes
+add-pass c = omega (arith, c .before .before .before .before .before .before .before .before .before .before .before .before .before .before .before .before .passes-test .taken)
+
+passes-less : tie.Need-passes-less Inv-loop μ-loop Inv-passes μ-passes
+passes-less c = search (needs, c .before .before .before .before .before .before .before .before .before .before .before .before .before .before .before .before .passes-test .taken)
+
+passes-again : tie.Need-passes-again Inv-loop μ-loop Inv-passes μ-passes
+passes-again c =
+    let b = c .before .before .before .before .before .before .before .before .before in
+    let p = b .before .before .before .before .before .before .before .before in
+    let moved = c .before .before .before .before .before .bring in
+    walked-takes (p .before .before .before .pre .0) (p .passes .inv) _ _ (b .before .before .before .before .before .before .before .passes-test .taken) (b .before .before .before .before .before .before .loop .inv) (b .block-end .ensures) (inside (b .before .before .before .before .before)) (b .before .before .before .if1 .taken) (moved .last .0) (moved .last .1 .0) (moved .kept .0) (moved .kept .1 .0) (c .before .before .before .before .before .before .new-class .result) (c .before .before .before .before .before .before .new-class .ensures) (moved .ensures) _ (c .with .ensures)
+
+same-length : tie.Need-same-length Inv-loop μ-loop Inv-passes μ-passes
+same-length c = c .before .passes .inv .codes-keep
+
+same-length-2 : tie.Need-same-length-2 Inv-loop μ-loop Inv-passes μ-passes
+same-length-2 c = c .before .passes .inv .classes-keep
+
+returns : tie.Need-returns Inv-loop μ-loop Inv-passes μ-passes
+returns c = walk-over (c .before .passes .inv .walk) (c .passes-test .left)
+
+same-length-3 : tie.Need-same-length-3 Inv-loop μ-loop Inv-passes μ-passes
+same-length-3 c = c .before .before .before .passes .inv .codes-keep
+
+same-length-4 : tie.Need-same-length-4 Inv-loop μ-loop Inv-passes μ-passes
+same-length-4 c = c .before .before .before .passes .inv .classes-keep
+
+returns-2 : tie.Need-returns-2 Inv-loop μ-loop Inv-passes μ-passes
+returns-2 c =
+    let p = c .before .before .before in
+    let e = p .before .before .before .pre .0 in
+    let w = p .passes .inv in
+    walk-breaks (walk-skips (w .walk) _ (c .before .before .passes-test .taken) (c .before .loop .inv)) (c .loop-test .taken ∙ sym (walked-length e w ∙ w .codes-keep))
+
+pub reorder-spec : {M : Type 1} → statement M
+reorder-spec =
+    tie.close
+    (tie.spec
+    Inv-loop
+    μ-loop
+    Inv-passes
+    μ-passes
+    passes-holds
+    array-read-class
+    loop-holds
+    slice-read-if1
+    add-i
+    loop-less
+    loop-again
+    block-end-requires
+    mul-bring
+    sub-bring
+    part-bring-start
+    part-bring-end
+    sub-bring-2
+    part-bring-start-2
+    part-bring-end-2
+    sub-bring-3
+    new-class-requires
+    bring-requires
+    add-with
+    add-with-2
+    with-requires
+    sub-from
+    add-from
+    add-pass
+    passes-less
+    passes-again
+    same-length
+    same-length-2
+    returns
+    same-length-3
+    same-length-4
+    returns-2)

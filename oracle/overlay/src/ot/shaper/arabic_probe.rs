@@ -61,6 +61,7 @@ pub mod probe {
     pub fn set_cluster(b: &mut Buffer, i: usize, c: u32) { b.info[i].cluster = c }
     pub fn set_multiplied(b: &mut Buffer, i: usize, yes: bool, comp: u8) { b.info[i].set_glyph_props(if yes { 0x40 } else { 0 }); b.info[i].set_lig_props(comp) }
     pub fn set_len(b: &mut Buffer, n: usize) { b.len = n }
+    pub fn set_idx(b: &mut Buffer, i: usize) { b.idx = i }
     pub fn set_ctx(b: &mut Buffer, side: usize, c: Option<u32>) { b.context_len[side] = 0; if let Some(c) = c { b.context[side][0] = c; b.context_len[side] = 1; } }
     pub fn ok(b: &Buffer) -> bool { b.successful }
     pub fn max_ops(b: &Buffer) -> i32 { b.max_ops }

@@ -128,3 +128,10 @@ pub fn take_u32<'a>(body: &[u8], at: &mut usize, out: &'a mut [u32]) -> &'a mut 
     }
     &mut out[..count]
 }
+
+// A place or a length, which a case has in 32 bits, as a call takes it.
+pub fn wide(x: u32) -> usize
+    ensures { λ r. ⌜ r ≡ x ⌝ }
+{
+    x as usize
+}

@@ -5,11 +5,6 @@ use marks::Merged;
 use replays::Case;
 use tallies::Outcome;
 
-// A place as the call takes it.
-fn wide(x: u32) -> usize {
-    x as usize
-}
-
 // A place as a case has it: one past all of these becomes the last, where no part ends.
 fn narrow(x: usize) -> u32 {
     if x < 4294967295 {
@@ -63,8 +58,8 @@ fn replay(body: &[u8]) -> Outcome {
     let answer = marks::reorder_modifier_combining_marks(
         codes,
         classes,
-        wide(start_room[0]),
-        wide(end_room[0]),
+        columns::wide(start_room[0]),
+        columns::wide(end_room[0]),
         lent[0],
         lent[1],
     );

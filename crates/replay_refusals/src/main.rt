@@ -3,10 +3,6 @@
 use replays::Case;
 use tallies::Outcome;
 
-fn wide(x: u32) -> usize {
-    x as usize
-}
-
 // The number of each test, and of the smallest, which wins whatever stands first.
 fn numbers(n: usize, m: usize, most: usize, column: &[u8], bound: u8, codes: &[u32]) -> [u8; 5] {
     let even = refusals::even(n, m);
@@ -32,9 +28,9 @@ fn replay(body: &[u8], room: &mut [u32]) -> Outcome {
     let bound = columns::view_u8(body, &mut at, 1);
     let codes = columns::take_u32(body, &mut at, room);
     let got = numbers(
-        wide(three[0]),
-        wide(three[1]),
-        wide(three[2]),
+        columns::wide(three[0]),
+        columns::wide(three[1]),
+        columns::wide(three[2]),
         column,
         cases::first_u8(bound),
         codes,

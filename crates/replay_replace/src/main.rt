@@ -7,11 +7,6 @@ use letters::JoiningType;
 use replays::Case;
 use tallies::Outcome;
 
-// A place as the call takes it.
-fn wide(x: u32) -> usize {
-    x as usize
-}
-
 // Makes the call of a case and compares. Its rooms are its own, as in `replay_join`.
 fn replay(body: &[u8]) -> Outcome {
     let mut at: usize = 0;
@@ -53,7 +48,7 @@ fn replay(body: &[u8]) -> Outcome {
         cases::first_u8(mongolian) == 1,
         actions,
         masks,
-        wide(place_room[0]),
+        columns::wide(place_room[0]),
         Code(code_room[0]),
         JoiningType(cases::first_u8(joining_type)),
         Category(cases::first_u8(category)),

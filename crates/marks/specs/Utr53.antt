@@ -1,6 +1,6 @@
 -- What UTR 53 says of modifier combining marks (MCM), for a sequence of marks in canonical order: `Least`, `Rising` that order; `those` marks by a test; `ofClass`, `isModifier` tests of a mark;
 -- `lead`, `without` the MCM at the beginning of the sequence of a class, and all others; `toBeginning` a step of the algorithm; `utr53` its two steps for these marks; `arranged` what they come
--- to, with the classes renumbered. The step before these, which moves shadda, "rests on modified classes and is not done here".
+-- to, with the classes renumbered. The step before these, which moves shadda, is not done here.
 -- Assumes nothing.
 use mathlib.Core.Bool.{Bool, cond}
 use mathlib.Core.List.{List, [], _∷_, _++_}
@@ -40,11 +40,11 @@ abbrev pub without : ℕ → List Mark → List Mark
 without class [] = []
 without class (m ∷ ms) = cond (ofClass class m) (cond (isModifier m) (without class ms) (m ∷ ms)) (m ∷ without class ms)
 
--- "If a sequence of ccc=.. characters begins with any MCM characters, move the sequence of such characters to the beginning of S"
+-- a step of the algorithm: where the sequence of a class begins with MCM, these go to the beginning of all
 abbrev pub toBeginning : ℕ → List Mark → List Mark
 toBeginning class l = lead class l ++ without class l
 
--- the step for ccc=230, then the one for ccc=220, which goes "before any MCM with ccc=230"
+-- the step for class 230, then the one for class 220, whose MCM so come to stand before those of 230
 abbrev pub utr53 : List Mark → List Mark
 utr53 l = toBeginning 220 (toBeginning 230 l)
 

@@ -1,23 +1,23 @@
--- Moving marks: an exchange in both columns, and what is left to turn (`Turning`); a column filled with one number (`Filling`); parts of both columns written anew (`marks-mid`, `marks-put`); a block brought to the front (`rotated`, `brought-filled`).
+-- Moving marks: an exchange in both columns, and what is left to turn (`Turning`); parts of both columns written anew (`marks-mid`, `marks-put`, `marks-first`); a class written anew
+-- (`marks-class`); a block brought forward by three turns (`brought-forward`).
 -- Assumes nothing.
 use mathlib.Core.Path.{_≡_, refl, sym, ap, ap₂, _∙_}
 use mathlib.Core.List.{List, [], _∷_, _++_, reverse}
-use Prim.Native.Nat.{ℕ, suc, _+_, _-_, _≤_, _<_}
+use Prim.Native.Nat.{ℕ, _+_, _-_, _≤_, _<_}
 use native.Mathlib.Omega.{arith}
-use lib.ListN.{length, getD, take, drop, set, replicate, length-set, take-append-drop, length-drop, length-replicate, drop-of-length-le}
-use lib.Seq.{length-take-le, take-all, take-at, drop-at}
-use Rattle.laws.proofs.LoopLaws.{fill-next, fill-end}
-use Rattle.laws.proofs.PartLaws.{turned, turn-all, turn-more, turn-end, second-part, second-put, three-turns}
-use Rattle.blocks.specs.Marks.{Mark, mark, marks, numbered, brought}
-use Rattle.blocks.proofs.MarkLaws.{nothing, length-marks, marks-at, marks-set, marks-take, marks-drop, marks-append, marks-numbered}
+use lib.ListN.{length, getD, take, drop, set, length-set}
+use lib.Seq.{length-take-le, set-getD}
+use Rattle.laws.proofs.PartLaws.{turned, turn-rest, turn-more, turn-end, three-turns}
+use Rattle.blocks.specs.Marks.{Mark, mark, marks, brought}
+use Rattle.blocks.proofs.MarkLaws.{nothing, length-marks, marks-at, marks-set, marks-take, marks-drop, marks-append}
 
 -- columns of which the part from lo to hi is still to turn
-pub record Turning (codes₀ classes₀ codes classes : List ℕ) (lo hi : ℕ) : Type 0 where
+pub record Turning (a : ℕ) (codes₀ classes₀ codes classes : List ℕ) (lo hi : ℕ) : Type 0 where
   pub order : lo ≤ hi
   pub fits : hi ≤ length codes₀
   pub codes-keep : length codes ≡ length codes₀
   pub classes-keep : length classes ≡ length classes₀
-  pub still : reverse (marks codes₀ classes₀) ≡ turned lo hi (marks codes classes)
+  pub still : take a (marks codes₀ classes₀) ++ reverse (drop a (marks codes₀ classes₀)) ≡ turned lo hi (marks codes classes)
 
 exchange :
     (codes classes : List ℕ) (lo hi : ℕ) → lo < hi → hi < length codes → length codes ≡ length classes
@@ -28,23 +28,23 @@ exchange codes classes lo hi h g e =
     (marks-set (set codes lo (getD codes hi 0)) (set classes lo (getD classes hi 0)) hi (getD codes lo 0) (getD classes lo 0)
     ∙ ap (λ (l : List Mark). set l hi (mark (getD codes lo 0) (getD classes lo 0))) (marks-set codes classes lo (getD codes hi 0) (getD classes hi 0)))
 
-pub turning-begins : (codes classes : List ℕ) → length codes ≡ length classes → Turning codes classes codes classes 0 (length codes)
-turning-begins codes classes e =
+pub turning-begins : (a : ℕ) (codes classes : List ℕ) → length codes ≡ length classes → a ≤ length codes → Turning a codes classes codes classes a (length codes)
+turning-begins a codes classes e h =
     let n = length-marks codes classes e in
     record {
-      order = omega arith;
+      order = h;
       fits = omega arith;
       codes-keep = refl;
       classes-keep = refl;
-      still = sym (turn-all (marks codes classes)) ∙ ap (λ (k : ℕ). turned 0 k (marks codes classes)) n;
+      still = sym (turn-rest (marks codes classes) a) ∙ ap (λ (k : ℕ). turned a k (marks codes classes)) n;
     }
 
-module _ {codes₀ classes₀ codes classes : List ℕ} {lo hi : ℕ} (e : length codes₀ ≡ length classes₀) (p : Turning codes₀ classes₀ codes classes lo hi) where
+module _ {a : ℕ} {codes₀ classes₀ codes classes : List ℕ} {lo hi : ℕ} (e : length codes₀ ≡ length classes₀) (p : Turning a codes₀ classes₀ codes classes lo hi) where
   keep : length codes ≡ length classes
   keep = p .codes-keep ∙ e ∙ sym (p .classes-keep)
 
   pub turning-on : lo + 1 < hi
-      → Turning codes₀ classes₀
+      → Turning a codes₀ classes₀
       (set (set codes lo (getD codes (hi - 1) 0)) (hi - 1) (getD codes lo 0))
       (set (set classes lo (getD classes (hi - 1) 0)) (hi - 1) (getD classes lo 0))
       (lo + 1) (hi - 1)
@@ -65,36 +65,12 @@ module _ {codes₀ classes₀ codes classes : List ℕ} {lo hi : ℕ} (e : lengt
             ∙ ap (turned (lo + 1) (hi - 1)) (sym (exchange codes classes lo (hi - 1) (omega arith) (omega arith) keep));
       }
 
-  pub turning-ends : hi ≤ lo + 1 → marks codes classes ≡ reverse (marks codes₀ classes₀)
+  pub turning-ends : hi ≤ lo + 1 → marks codes classes ≡ take a (marks codes₀ classes₀) ++ reverse (drop a (marks codes₀ classes₀))
   turning-ends h =
       let n : length (marks codes classes) ≡ length codes = length-marks codes classes keep in
       let f : length codes ≡ length codes₀ = p .codes-keep in
       let g : hi ≤ length codes₀ = p .fits in
       sym (p .still ∙ turn-end (marks codes classes) lo hi (p .order) h (omega arith))
-
--- a column that is filled with k up to i
-pub record Filling (column₀ : List ℕ) (k : ℕ) (column : List ℕ) (i : ℕ) : Type 0 where
-  pub keep : length column ≡ length column₀
-  pub filled : replicate (length column₀) k ≡ take i column ++ replicate (length column₀ - i) k
-
-pub filling-begins : (column : List ℕ) (k : ℕ) → Filling column k column 0
-filling-begins column k =
-    let e : length column ≡ length column - 0 = omega arith in
-    record { keep = refl; filled = ap (λ (n : ℕ). replicate n k) e }
-
-module _ {column₀ : List ℕ} {k : ℕ} {column : List ℕ} {i : ℕ} (p : Filling column₀ k column i) where
-  pub filling-on : i < length column → Filling column₀ k (set column i k) (i + 1)
-  filling-on h =
-      let e : length column₀ - i ≡ suc (length column₀ - (i + 1)) = omega (arith, p .keep) in
-      record {
-        keep = simp length-set (p .keep);
-        filled = p .filled ∙ ap (λ (n : ℕ). take i column ++ replicate n k) e ∙ fill-next column i k (replicate (length column₀ - (i + 1)) k) h;
-      }
-
-  pub filling-ends : length column ≤ i → column ≡ replicate (length column₀) k
-  filling-ends h =
-      let z : length column₀ - i ≡ 0 = omega (arith, p .keep) in
-      sym (p .filled ∙ ap (λ (n : ℕ). take i column ++ replicate n k) z ∙ fill-end column i h)
 
 -- ---- parts of both columns written anew
 -- of two columns the part of k records from a on
@@ -111,52 +87,24 @@ marks-put a k cs ks x y h e n =
     (marks-append x (drop k (drop a cs)) y (drop k (drop a ks)) n ∙ ap (λ (l : List Mark). marks x y ++ l) (marks-drop k (drop a cs) (drop a ks) ∙ ap (drop k) (marks-drop a cs ks)))
 
 -- with the first n records written anew
-marks-first :
+pub marks-first :
     (n : ℕ) (cs ks x y : List ℕ) → length x ≡ length y → marks (x ++ drop n cs) (y ++ drop n ks) ≡ marks x y ++ drop n (marks cs ks)
 marks-first n cs ks x y e = marks-append x (drop n cs) y (drop n ks) e ∙ ap (λ (l : List Mark). marks x y ++ l) (marks-drop n cs ks)
 
--- ---- a block brought to the front
-module _ (cs ks : List ℕ) (n : ℕ) where
-  -- the first n turned round, the others turned round, and then all
-  pub rotated :
-      (x y : List ℕ) → length x ≡ n → length y ≡ n → marks x y ≡ reverse (marks (take n cs) (take n ks))
-      → (v w : List ℕ)
-      → marks v w ≡ reverse (marks (take (length (x ++ drop n cs) - n) (drop n (x ++ drop n cs))) (take (length (y ++ drop n ks) - n) (drop n (y ++ drop n ks))))
-      → reverse
-      (marks
-      (take n (x ++ drop n cs) ++ (v ++ drop (length (x ++ drop n cs) - n) (drop n (x ++ drop n cs))))
-      (take n (y ++ drop n ks) ++ (w ++ drop (length (y ++ drop n ks) - n) (drop n (y ++ drop n ks)))))
-      ≡ drop n (marks cs ks) ++ take n (marks cs ks)
-  rotated x y a b p v w q =
-      let v-is : marks v w ≡ reverse (drop n (marks cs ks)) = q ∙ ap reverse (ap₂ marks (second-part x (drop n cs) n a) (second-part y (drop n ks) n b) ∙ marks-drop n cs ks) in
-      let x-is : marks x y ≡ reverse (take n (marks cs ks)) = p ∙ ap reverse (marks-take n cs ks) in
-      ap reverse
-      (ap₂ marks (second-put x (drop n cs) n a v) (second-put y (drop n ks) n b w)
-      ∙ marks-append x v y w (a ∙ sym b)
-      ∙ ap₂ (λ (r s : List Mark). r ++ s) x-is v-is)
-      ∙ three-turns (take n (marks cs ks)) (drop n (marks cs ks))
+-- one class written anew
+pub marks-class : (cs ks : List ℕ) (i k : ℕ) → marks cs (set ks i k) ≡ set (marks cs ks) i (mark (getD cs i 0) k)
+marks-class cs ks i k = ap (λ (c : List ℕ). marks c (set ks i k)) (sym (set-getD cs i 0)) ∙ marks-set cs ks i (getD cs i 0) k
 
-  -- those that have come get their class
-  pub brought-filled :
-      length cs ≡ length ks → n ≤ length cs
-      → (x y : List ℕ) → length x ≡ length cs → length y ≡ length ks → marks x y ≡ drop n (marks cs ks) ++ take n (marks cs ks)
-      → (k : ℕ) (w : List ℕ) → w ≡ replicate (length (take (length y - n) y)) k → marks x (w ++ drop (length y - n) y) ≡ brought n k (marks cs ks)
-  brought-filled e h x y a b p k w f =
-      let m : ℕ = length y - n in
-      let E : List Mark = drop n (marks cs ks) in
-      let F : List Mark = take n (marks cs ks) in
-      let l : length E ≡ m = length-drop n (marks cs ks) ∙ ap (λ (i : ℕ). i - n) (length-marks cs ks e ∙ e ∙ sym b) in
-      let t : length (take m x) ≡ m = length-take-le m x (omega arith) in
-      let u : length (take m y) ≡ m = length-take-le m y (omega arith) in
-      let r : length w ≡ m = ap length f ∙ length-replicate (length (take m y)) k ∙ u in
-      ap (λ (c : List ℕ). marks c (w ++ drop m y)) (sym (take-append-drop m x))
-      ∙ marks-append (take m x) (drop m x) w (drop m y) (t ∙ sym r)
-      ∙ ap₂ (λ (g d : List Mark). g ++ d)
-      (ap (marks (take m x)) f
-      ∙ marks-numbered (take m x) (take m y) k (length (take m y)) (t ∙ sym u) (t ∙ sym u)
-      ∙ ap (numbered k) (marks-take m x y ∙ ap (take m) p ∙ take-at E F m l))
-      (marks-drop m x y ∙ ap (drop m) p ∙ drop-at E F m l)
-
--- where none is to come, all stays
-pub brought-none : (n k : ℕ) (l : List Mark) → length l ≤ n → l ≡ brought n k l
-brought-none n k l h = sym (rw (drop-of-length-le l {i = n} h) (take-all n l h))
+-- ---- a block brought forward
+-- the marks from a to n turned round, those from n on turned round, and then all from a on
+pub brought-forward :
+    (cs ks : List ℕ) (a n : ℕ) → length cs ≡ length ks → a ≤ n → n ≤ length cs
+    → (x y : List ℕ) → length x ≡ length y → marks x y ≡ take a (marks (take n cs) (take n ks)) ++ reverse (drop a (marks (take n cs) (take n ks)))
+    → (l : List Mark) → l ≡ take n (marks (x ++ drop n cs) (y ++ drop n ks)) ++ reverse (drop n (marks (x ++ drop n cs) (y ++ drop n ks)))
+    → take a l ++ reverse (drop a l) ≡ brought a n (marks cs ks)
+brought-forward cs ks a n e h g x y s p l q =
+    let M : List Mark = marks cs ks in
+    let first : marks (x ++ drop n cs) (y ++ drop n ks) ≡ (take a (take n M) ++ reverse (drop a (take n M))) ++ drop n M =
+    marks-first n cs ks x y s ∙ ap (λ (r : List Mark). r ++ drop n M) (p ∙ ap (λ (r : List Mark). take a r ++ reverse (drop a r)) (marks-take n cs ks))
+    in
+    ap (λ (r : List Mark). take a r ++ reverse (drop a r)) (q ∙ ap (λ (r : List Mark). take n r ++ reverse (drop n r)) first) ∙ three-turns M a n h (rw (length-marks cs ks e) g)

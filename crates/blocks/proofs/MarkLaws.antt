@@ -4,9 +4,9 @@ use mathlib.Core.Path.{_≡_, refl, sym, ap, ap₂, _∙_}
 use mathlib.Core.List.{List, [], _∷_, _++_, map}
 use Prim.Native.Nat.{ℕ, zero, suc, _+_, _-_, _≤_, _<_}
 use native.Mathlib.Omega.{arith}
-use lib.ListN.{length, getD, take, drop, set, replicate}
+use lib.ListN.{length, getD, take, drop, set}
 use lib.Seq.{slice}
-use Rattle.blocks.specs.Marks.{Mark, mark, marks, codesOf, classesOf, numbered}
+use Rattle.blocks.specs.Marks.{Mark, mark, marks, codesOf, classesOf}
 
 pub nothing : Mark
 nothing = mark 0 0
@@ -56,13 +56,6 @@ marks-append [] b [] d e = refl
 marks-append [] b (k ∷ c) d e = absurd (omega arith)
 marks-append (x ∷ a) b [] d e = absurd (omega arith)
 marks-append (x ∷ a) b (k ∷ c) d e = ap (λ (l : List Mark). mark x k ∷ l) (marks-append a b c d (omega arith))
-
--- codes whose classes are all k
-pub marks-numbered : (cs ks : List ℕ) (k n : ℕ) → length cs ≡ length ks → length cs ≡ n → marks cs (replicate n k) ≡ numbered k (marks cs ks)
-marks-numbered [] ks k n e f = refl
-marks-numbered (c ∷ cs) [] k n e f = absurd (omega arith)
-marks-numbered (c ∷ cs) (x ∷ ks) k zero e f = absurd (omega arith)
-marks-numbered (c ∷ cs) (x ∷ ks) k (suc n) e f = ap (λ (l : List Mark). mark c k ∷ l) (marks-numbered cs ks k n (omega arith) (omega arith))
 
 pub codes-marks : (cs ks : List ℕ) → length cs ≡ length ks → codesOf (marks cs ks) ≡ cs
 codes-marks [] ks e = refl

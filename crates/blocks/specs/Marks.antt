@@ -1,9 +1,10 @@
 -- Marks, and what moving a block of them does: `Mark` a code with its class; `marks` two columns as one list; `codesOf`, `classesOf` its columns;
--- `renumber`, `numbered` a class number given anew; `brought` a block brought to the front.
+-- `renumber`, `numbered` a class number given anew; `brought` a block brought forward.
 -- Assumes nothing.
 use mathlib.Core.List.{List, [], _∷_, _++_, map}
 use Prim.Native.Nat.{ℕ}
 use lib.ListN.{take, drop}
+use lib.Seq.{slice}
 
 -- a code point and its combining class
 pub record Mark : Type 0 where
@@ -33,6 +34,6 @@ renumber k m = mark (m .code) k
 abbrev pub numbered : ℕ → List Mark → List Mark
 numbered k l = map (renumber k) l
 
--- all but the first n marks go before these, and get the class k; both parts keep their order
+-- the marks from n on go to a, before those that stood from there to n; all keep their order
 abbrev pub brought : ℕ → ℕ → List Mark → List Mark
-brought n k l = numbered k (drop n l) ++ take n l
+brought a n l = take a l ++ (drop n l ++ slice a n l)

@@ -1,28 +1,41 @@
--- `blocks::bring` meets its contract: the block is rotated to the front, and its classes are filled.
+-- `blocks::bring` meets its contract: two parts are turned round, and then both.
 -- Assumes nothing.
 use mathlib.Core.Path.{_≡_, sym, _∙_}
+use Prim.Native.Nat.{_≤_}
 use native.Mathlib.Omega.{arith}
 use borrow.Author.Needs.{needs}
+use lib.ListN.{length}
 use lib.Seq.{length-take-le}
-use Rattle.blocks.proofs.MarkLaws.{length-marks}
-use Rattle.blocks.proofs.BlockLaws.{brought-filled, brought-none}
+use Rattle.blocks.proofs.BlockLaws.{brought-forward}
 use Rattle.blocks.proofs.bring.Statement.{statement}
 use Rattle.blocks.proofs.bring.Tie as tie
 
-rotate-requires : tie.Need-rotate-requires
-rotate-requires c κs = search needs
+fits : (s : tie.Start) → s .args .n ≤ length (s .args .classes .now)
+fits s = omega (arith, s .pre .0, s .pre .1 .1)
 
-sub-k : tie.Need-sub-k
-sub-k c = search needs
+slice-relend-prefix-turn : tie.Need-slice-relend-prefix-turn
+slice-relend-prefix-turn c = search needs
 
-slice-relend-prefix-fill : tie.Need-slice-relend-prefix-fill
-slice-relend-prefix-fill c = search needs
+slice-aggregate-turn : tie.Need-slice-aggregate-turn
+slice-aggregate-turn c = sym (length-take-le _ _ (c .before .before .before .pre .1 .1))
 
-slice-aggregate-fill : tie.Need-slice-aggregate-fill
-slice-aggregate-fill c = sym (length-take-le _ _ (omega arith))
+slice-relend-prefix-turn-2 : tie.Need-slice-relend-prefix-turn-2
+slice-relend-prefix-turn-2 c = search needs
 
-fill-requires : tie.Need-fill-requires
-fill-requires c κs = search needs
+slice-aggregate-turn-2 : tie.Need-slice-aggregate-turn-2
+slice-aggregate-turn-2 c = sym (length-take-le _ _ (fits (c .before .before .before .before)))
+
+turn-requires : tie.Need-turn-requires
+turn-requires c κs = 
+    let s = c .before .before .before .before in
+    let codes = length-take-le (s .args .n) (s .args .codes .now) (s .pre .1 .1) in
+    (codes ∙ sym (length-take-le _ _ (fits s)), rw codes (s .pre .1 .0))
+
+turn-requires-2 : tie.Need-turn-requires-2
+turn-requires-2 c κs = search needs
+
+turn-requires-3 : tie.Need-turn-requires-3
+turn-requires-3 c κs = search needs
 
 same-length : tie.Need-same-length
 same-length c = search needs
@@ -31,27 +44,23 @@ same-length-2 : tie.Need-same-length-2
 same-length-2 c = search needs
 
 returns : tie.Need-returns
-returns c =
-    let s = c .before .before .before .before .before .before .before .before .before .before .before .before .before .before in
-    let moved = c .before .before .before .before .before .before .before .before .rotate in
-    brought-filled (s .args .codes .now) (s .args .classes .now) (s .args .n) (s .pre .0) (s .pre .1) (moved .last .0) (moved .last .1 .0) (moved .kept .0) (moved .kept .1 .0) (moved .ensures) (s .args .class) _ (c .before .before .fill .ensures)
-
-returns-2 : tie.Need-returns-2
-returns-2 c =
-    let s = c .before .before .before in
-    let n = length-marks (s .args .codes .now) (s .args .classes .now) (s .pre .0) in
-    brought-none (s .args .n) (s .args .class) _ (rw n (c .if1 .left))
+returns c = 
+    let s = c .before .before .before .before .before .before .before .before .before .before .before .before .before .before .before .before .before .before .before .before .before .before .before in
+    let first = c .before .before .before .before .before .before .before .before .before .before .before .before .before .before .before .before .before .before .turn in
+    c .before .before .before .before .turn3 .ensures
+    ∙ brought-forward (s .args .codes .now) (s .args .classes .now) (s .args .a) (s .args .n) (s .pre .0) (s .pre .1 .0) (s .pre .1 .1) (first .last .0) (first .last .1 .0) (first .kept .0 ∙ length-take-le _ _ (s .pre .1 .1) ∙ sym (first .kept .1 .0 ∙ length-take-le _ _ (fits s))) (first .ensures) _ (c .before .before .before .before .before .before .before .before .before .before .before .turn2 .ensures)
 
 pub bring-spec : {M : Type 1} → statement M
 bring-spec =
     tie.close
     (tie.spec
-    rotate-requires
-    sub-k
-    slice-relend-prefix-fill
-    slice-aggregate-fill
-    fill-requires
+    slice-relend-prefix-turn
+    slice-aggregate-turn
+    slice-relend-prefix-turn-2
+    slice-aggregate-turn-2
+    turn-requires
+    turn-requires-2
+    turn-requires-3
     same-length
     same-length-2
-    returns
-    returns-2)
+    returns)

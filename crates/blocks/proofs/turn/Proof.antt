@@ -9,13 +9,13 @@ use Rattle.blocks.proofs.turn.Statement.{statement}
 use Rattle.blocks.proofs.turn.Tie as tie
 
 abbrev Inv-loop : tie.InvT-loop
-Inv-loop codes₀ classes₀ lo₀ hi₀ codes classes lo hi = Turning codes₀ classes₀ codes classes lo hi
+Inv-loop codes₀ classes₀ a lo₀ hi₀ codes classes lo hi = Turning a codes₀ classes₀ codes classes lo hi
 
 abbrev μ-loop : tie.MeasureT-loop
-μ-loop codes₀ classes₀ lo₀ hi₀ codes classes lo hi = hi - lo
+μ-loop codes₀ classes₀ a lo₀ hi₀ codes classes lo hi = hi - lo
 
 loop-holds : tie.Need-loop-holds Inv-loop μ-loop
-loop-holds c = turning-begins _ _ (c .pre)
+loop-holds c = turning-begins _ _ _ (c .pre .0) (c .pre .1)
 
 add-loop : tie.Need-add-loop Inv-loop μ-loop
 add-loop c = search needs
@@ -66,7 +66,7 @@ loop-less : tie.Need-loop-less Inv-loop μ-loop
 loop-less c = search needs
 
 loop-again : tie.Need-loop-again Inv-loop μ-loop
-loop-again c = let l = c .before .before .before .before in turning-on (l .before .before .pre) (l .before .loop .inv) (l .loop-test .taken)
+loop-again c = let l = c .before .before .before .before in turning-on (l .before .before .pre .0) (l .before .loop .inv) (l .loop-test .taken)
 
 same-length : tie.Need-same-length Inv-loop μ-loop
 same-length c = c .before .loop .inv .codes-keep
@@ -75,7 +75,7 @@ same-length-2 : tie.Need-same-length-2 Inv-loop μ-loop
 same-length-2 c = c .before .loop .inv .classes-keep
 
 returns : tie.Need-returns Inv-loop μ-loop
-returns c = turning-ends (c .before .before .pre) (c .before .loop .inv) (c .loop-test .left)
+returns c = turning-ends (c .before .before .pre .0) (c .before .loop .inv) (c .loop-test .left)
 
 pub turn-spec : {M : Type 1} → statement M
 turn-spec =

@@ -1,5 +1,5 @@
 -- What a pass does. Once it has skipped a and stands at b (`skipped-is`, `block-is`, `others-is`); that marks which are all smaller stay (`passes-low`, `ranges-low`); the range
--- of a block by its places (`merged-is`); and the end of a block, mark by mark (`front-more`, `front-ends`).
+-- of a block (`merged-some`); and the end of a block, mark by mark (`front-more`, `front-ends`).
 -- Assumes nothing.
 use mathlib.Core.Path.{_≡_, refl, sym, ap, ap₂, _∙_}
 use mathlib.Core.Bool.{Bool, true, false, cond}
@@ -7,7 +7,6 @@ use mathlib.Core.List.{List, [], _∷_, _++_, append-nil}
 use Prim.Native.Nat.{ℕ, suc, _+_, _≤_, _<_}
 use native.Mathlib.Omega.{arith}
 use borrow.Author.Tests.{lt-ltb, le-ltb}
-use lib.Dec.{ltb}
 use lib.ListN.{length, getD, drop, drop-of-length-le, length-append, length-drop, length-map}
 use Rattle.laws.proofs.LoopLaws.{drop-next}
 use Rattle.blocks.specs.Marks.{Mark, renumber, numbered}
@@ -128,7 +127,7 @@ length-passes new (c ∷ cs) l =
     let parted = ap length (pass-parts c l) in
     omega (arith, taken, length-map (block c l) (renumber (new c)), length-passes new cs (others c l), length-append (skipped c l) b, parted, length-append (skipped c l) (block c l ++ b), length-append (block c l) b)
 
--- the range of a block that begins behind the skipped marks, at i, and ends at j
-pub merged-is : (start i j : ℕ) (a x : List Mark) → i + length x ≡ j → merged start a x ≡ cond (ltb i j) (Over start (start + (length a + length x)) ∷ []) []
-merged-is start i j a [] e = rw (le-ltb i j (omega arith))
-merged-is start i j a (m ∷ x) e = rw (lt-ltb i j (omega arith))
+-- a block that is not empty has one range
+pub merged-some : (start : ℕ) (a x : List Mark) → (length x ≡ 0 → ⊥) → merged start a x ≡ Over start (start + (length a + length x)) ∷ []
+merged-some start a [] d = absurd (d refl)
+merged-some start a (m ∷ x) d = refl

@@ -2,17 +2,18 @@
 -- `before-newLine`, `behind-newLine`, `length-newLine`); a part as it is lent (`part-lent`), and two columns whose part was reordered (`new-columns`).
 -- Assumes nothing.
 use mathlib.Core.Path.{_≡_, refl, sym, ap, ap₂, _∙_}
-use mathlib.Core.Bool.{_&&_, not, and-eq-true-iff}
+use mathlib.Core.Bool.{_||_, not}
 use mathlib.Core.List.{List, [], _∷_, _++_}
 use Prim.Native.Nat.{ℕ, _+_, _-_, _≤_}
 use native.Mathlib.Omega.{arith}
-use borrow.Author.Tests.{not-false, eqb-true, leb-true}
+use borrow.Author.Tests.{not-false, eqb-true, ltb-false}
 use borrow.Rule.Slice.PartMut.{mid-len, same-len-mid, post-is}
-use lib.Dec.{eqb, leb}
+use lib.Dec.{eqb, ltb}
 use lib.ListN.{length, take, drop, length-append, length-drop}
 use lib.Seq.{slice, length-take-le, length-slice}
 use Rattle.laws.specs.Rows.{Given}
 use Rattle.laws.proofs.RowLaws.{first-none}
+use Rattle.laws.proofs.TestLaws.{neither}
 use Rattle.laws.proofs.PartLaws.{take-parts, slice-parts, drop-parts, slice-mid}
 use Rattle.refusals.specs.Columns.{lineLimit}
 use Rattle.refusals.specs.declared.Verdict.{Verdict}
@@ -77,17 +78,17 @@ pub allowed : (q : Request) (c : Columns) → reorderRefusal q c ≡ 0 → Allow
 unfolding reorderRefusal
 allowed q c z =
     let n = length (c .codes) in
-    let fits = leb (q .start) (q .end) && leb (q .end) n in
-    let last = Given 4 (not fits) ∷ [] in
-    let uneven-not = first-none 0 (not (eqb n (length (c .classes)))) (Given 2 (not (leb n lineLimit)) ∷ last) z in
-    let long-not = first-none 1 (not (leb n lineLimit)) last (uneven-not .1) in
-    let outside-not = first-none 3 (not fits) [] (long-not .1) in
-    let range = and-eq-true-iff (leb (q .start) (q .end)) (leb (q .end) n) .0 (not-false fits (outside-not .0)) in
+    let turned = ltb (q .end) (q .start) in
+    let past = ltb n (q .end) in
+    let last = Given 4 (turned || past) ∷ [] in
+    let uneven-not = first-none 0 (not (eqb n (length (c .classes)))) (Given 2 (ltb lineLimit n) ∷ last) z in
+    let long-not = first-none 1 (ltb lineLimit n) last (uneven-not .1) in
+    let range = neither turned past (first-none 3 (turned || past) [] (long-not .1) .0) in
     record {
       even = eqb-true n (length (c .classes)) (not-false _ (uneven-not .0));
-      few = leb-true n lineLimit (not-false _ (long-not .0));
-      order = leb-true (q .start) (q .end) (range .0);
-      inside = leb-true (q .end) n (range .1);
+      few = ltb-false lineLimit n (long-not .0);
+      order = ltb-false (q .end) (q .start) (range .0);
+      inside = ltb-false n (q .end) (range .1);
     }
 
 -- ---- the part, as it is lent

@@ -6,21 +6,21 @@ use mathlib.Core.Bool.{Bool, true, false, cond}
 use mathlib.Core.List.{List, [], _∷_, _++_, append-assoc, append-nil}
 use Prim.Native.Nat.{ℕ, zero, suc, _+_, _-_, _≤_, _<_}
 use native.Mathlib.Omega.{arith}
-use borrow.Rule.Slice.PartMut.{mid-len, same-len-mid}
+use borrow.Table.Elements.{same-len}
 use lib.Dec.{ltb}
 use lib.ListN.{length, getD, take, drop, length-append, length-map, drop-of-length-le}
 use lib.Seq.{slice, slice-empty, length-slice, take-suc, drop-append-le, length-take-le, take-at, drop-at}
 use native.Mathlib.Numerals.{add-one}
 use Rattle.laws.proofs.LoopLaws.{drop-next}
-use Rattle.laws.proofs.PartLaws.{drop-parted}
-use Rattle.blocks.proofs.MarkLaws.{nothing, length-marks, class-at}
-use Rattle.blocks.proofs.BlockLaws.{marks-mid, marks-put}
+use Rattle.laws.proofs.PartLaws.{take-parts, slice-parts, drop-parts, drop-parted}
+use Rattle.blocks.proofs.MarkLaws.{nothing, length-marks, class-at, marks-take}
+use Rattle.blocks.proofs.BlockLaws.{marks-first}
 use Rattle.blocks.specs.Marks.{Mark, marks, renumber, numbered, brought}
 use Rattle.marks.specs.declared.Merged.{Merged}
 use Rattle.marks.specs.declared.Merged.the-variants.{Nothing}
 use Rattle.marks.specs.Passes.{front, behind, moves, reorderClasses, newClass, passes, Span, Over, merged, ranges}
 use Rattle.marks.specs.Reordered.{listed}
-use Rattle.marks.proofs.PassLaws.{Below, below-raise, below-append, Low, Stops, front-behind, front-fits, passes-is, ranges-is, passes-low, ranges-low, merged-is}
+use Rattle.marks.proofs.PassLaws.{Below, below-raise, below-append, Low, Stops, front-behind, front-fits, passes-is, ranges-is, passes-low, ranges-low, merged-some}
 
 -- the class of a pass
 abbrev pub classAt : ℕ → ℕ
@@ -38,6 +38,10 @@ low-all : (pass : ℕ) (l : List Mark) → pass < 2 → Below (classAt pass) l �
 low-all zero l q p = (p, (below-raise l (omega arith) p, tt))
 low-all (suc zero) l q p = (p, tt)
 low-all (suc (suc pass)) l q p = absurd (omega arith)
+
+empty : (l : List Mark) → length l ≡ 0 → l ≡ []
+empty [] e = refl
+empty (m ∷ l) e = absurd (omega arith)
 
 -- ---- the skipping
 -- from i₀ to i all marks are of a smaller class
@@ -133,68 +137,117 @@ module _ {new : ℕ → ℕ} {start : ℕ} {M₀ M : List Mark} {found : List Sp
         few = w .few;
       }
 
-  -- the block at this spot, which may be empty, goes to the front of what is left
-  pub walk-takes :
-      pass < 2 → Stops (classAt pass) (drop i M) → (j : ℕ) → j ≡ i + length (front (moves (classAt pass)) (drop i M))
-      → (x : List Mark) → x ≡ brought (i - from) (new (classAt pass)) (take (j - from) (drop from M)) → (M₂ : List Mark) → M₂ ≡ take from M ++ (x ++ drop (j - from) (drop from M))
-      → (found₂ : List Span) → found₂ ≡ found ++ cond (ltb i j) (Over (start + from) (start + j) ∷ []) []
-      → Walking new start M₀ M₂ found₂ (from + (j - i)) j (pass + 1)
-  walk-takes q s j e x b M₂ m found₂ f =
+  -- the block of the pass, which may be empty, and what is behind it
+  abbrev found-block : List Mark
+  found-block = front (moves (classAt pass)) (drop i M)
+
+  abbrev behind-block : List Mark
+  behind-block = behind (moves (classAt pass)) (drop i M)
+
+  -- it comes to stand before what was skipped, with its number, and the next pass begins behind it
+  walk-next :
+      pass < 2 → Stops (classAt pass) (drop i M) → (M₂ : List Mark) → M₂ ≡ w .done ++ (numbered (new (classAt pass)) found-block ++ (w .skips ++ behind-block))
+      → (found₂ : List Span) → found₂ ≡ found ++ merged (start + from) (w .skips) found-block → length found₂ ≤ pass + 1
+      → Walking new start M₀ M₂ found₂ (from + length found-block) (i + length found-block) (pass + 1)
+  walk-next q s M₂ m found₂ f few =
       let c : ℕ = classAt pass in
       let D : List Mark = w .done in
       let S : List Mark = w .skips in
-      let X : List Mark = front (moves c) (w .rest) in
-      let Y : List Mark = behind (moves c) (w .rest) in
+      let X : List Mark = found-block in
+      let Y : List Mark = behind-block in
       let N : List Mark = numbered (new c) X in
-      let stops : Stops c (w .rest) = subst (Stops c) rest-is s in
       let low : Below c S × Low cs S = subst (λ (l : List ℕ). Low l S) (classes-next pass q) (w .low) in
-      let parted : X ++ Y ≡ w .rest = front-behind (moves c) (w .rest) in
-      let at-j : i + length X ≡ j = ap (λ (l : List Mark). i + length (front (moves c) l)) (sym rest-is) ∙ sym e in
-      let lS : length S ≡ i - from = omega (arith, w .at-i) in
-      let lSX : length (S ++ X) ≡ j - from = length-append S X ∙ omega (arith, w .at-i) in
       let lN : length N ≡ length X = length-map X (renumber (new c)) in
-      let left : drop from M ≡ (S ++ X) ++ Y = from-is ∙ ap (λ (l : List Mark). S ++ l) (sym parted) ∙ sym (append-assoc S X Y) in
-      let taken : take (j - from) (drop from M) ≡ S ++ X = ap (take (j - from)) left ∙ take-at (S ++ X) Y (j - from) lSX in
-      let behind-it : drop (j - from) (drop from M) ≡ Y = ap (drop (j - from)) left ∙ drop-at (S ++ X) Y (j - from) lSX in
-      let came : x ≡ N ++ S =
-      b
-      ∙ ap (brought (i - from) (new c)) taken
-      ∙ ap₂ (λ (u v : List Mark). numbered (new c) u ++ v) (drop-at S X (i - from) lS) (take-at S X (i - from) lS)
-      in
-      let wide : start + from + (length S + length X) ≡ start + j = omega (arith, w .at-i) in
-      let on : start + from + length X ≡ start + (from + (j - i)) = omega arith in
-      let spanned : merged (start + from) S X ≡ cond (ltb i j) (Over (start + from) (start + j) ∷ []) [] =
-      merged-is (start + from) i j S X at-j ∙ ap (λ (n : ℕ). cond (ltb i j) (Over (start + from) n ∷ []) []) wide
-      in
+      let on : start + from + length X ≡ start + (from + length X) = omega arith in
       record {
         done = D ++ N;
         skips = S;
         rest = Y;
-        is =
-            m
-            ∙ ap₂ (λ (u v : List Mark). u ++ v) done-is (ap₂ (λ (u v : List Mark). u ++ v) came behind-it ∙ append-assoc N S Y)
-            ∙ sym (append-assoc D N (S ++ Y));
+        is = m ∙ sym (append-assoc D N (S ++ Y));
         at-from = length-append D N ∙ omega (arith, w .at-from);
         at-i = omega (arith, w .at-i);
         low = low .1;
         whole =
             w .whole
-            ∙ ap (λ (l : List ℕ). D ++ passes new l (S ++ w .rest)) (classes-next pass q)
-            ∙ ap (λ (l : List Mark). D ++ l) (passes-is c S (w .rest) (low .0) stops new cs)
+            ∙ ap₂ (λ (l : List ℕ) (r : List Mark). D ++ passes new l (S ++ r)) (classes-next pass q) (sym rest-is)
+            ∙ ap (λ (l : List Mark). D ++ l) (passes-is c S (drop i M) (low .0) s new cs)
             ∙ sym (append-assoc D N (passes new cs (S ++ Y)));
         spans =
             w .spans
-            ∙ ap (λ (l : List ℕ). found ++ ranges (start + from) l (S ++ w .rest)) (classes-next pass q)
-            ∙ ap (λ (l : List Span). found ++ l)
-            (ranges-is c S (w .rest) (low .0) stops (start + from) cs ∙ ap₂ (λ (u : List Span) (n : ℕ). u ++ ranges n cs (S ++ Y)) spanned on)
-            ∙ sym (append-assoc found (cond (ltb i j) (Over (start + from) (start + j) ∷ []) []) (ranges (start + (from + (j - i))) cs (S ++ Y)))
-            ∙ ap (λ (l : List Span). l ++ ranges (start + (from + (j - i))) cs (S ++ Y)) (sym f);
-        few = rw (f, length-append) (more (ltb i j));
+            ∙ ap₂ (λ (l : List ℕ) (r : List Mark). found ++ ranges (start + from) l (S ++ r)) (classes-next pass q) (sym rest-is)
+            ∙ ap (λ (l : List Span). found ++ l) (ranges-is c S (drop i M) (low .0) s (start + from) cs)
+            ∙ sym (append-assoc found (merged (start + from) S X) (ranges (start + from + length X) cs (S ++ Y)))
+            ∙ ap₂ (λ (l : List Span) (n : ℕ). l ++ ranges n cs (S ++ Y)) (sym f) on;
+        few = few;
       }
-    where
-      more : (t : Bool) → length found + length (cond t (Over (start + from) (start + j) ∷ []) []) ≤ pass + 1
-      more true = omega (arith, w .few)
-      more false = omega (arith, w .few)
+
+  -- the marks once the block has its number
+  numbered-is : (M₁ : List Mark) → M₁ ≡ take i M ++ (numbered (new (classAt pass)) found-block ++ behind-block)
+      → M₁ ≡ w .done ++ (w .skips ++ (numbered (new (classAt pass)) found-block ++ behind-block))
+  numbered-is M₁ m =
+      m
+      ∙ ap (λ (l : List Mark). l ++ (numbered (new (classAt pass)) found-block ++ behind-block))
+      (ap (take i) (w .is ∙ sym (append-assoc (w .done) (w .skips) (w .rest))) ∙ take-at (w .done ++ w .skips) (w .rest) i begun)
+      ∙ append-assoc (w .done) (w .skips) (numbered (new (classAt pass)) found-block ++ behind-block)
+
+  -- a block that ends at j is brought forward
+  pub walk-takes :
+      pass < 2 → Stops (classAt pass) (drop i M) → (j : ℕ) → j ≡ i + length found-block → (i ≡ j → ⊥)
+      → (M₁ : List Mark) → M₁ ≡ take i M ++ (numbered (new (classAt pass)) found-block ++ behind-block)
+      → (M₂ : List Mark) → M₂ ≡ brought from i (take j M₁) ++ drop j M₁
+      → (found₂ : List Span) → found₂ ≡ found ++ (Over (start + from) (start + j) ∷ [])
+      → Walking new start M₀ M₂ found₂ (from + (j - i)) j (pass + 1)
+  walk-takes q s j e d M₁ m₁ M₂ m₂ found₂ f =
+      let D : List Mark = w .done in
+      let S : List Mark = w .skips in
+      let X : List Mark = found-block in
+      let Y : List Mark = behind-block in
+      let N : List Mark = numbered (new (classAt pass)) X in
+      let lN : length N ≡ length X = length-map X (renumber (new (classAt pass))) in
+      let lS : length S + from ≡ i = omega (arith, w .at-i) in
+      let lP : length (D ++ (S ++ N)) ≡ j = length-append D (S ++ N) ∙ ap (λ (n : ℕ). length D + n) (length-append S N) ∙ omega (arith, w .at-from, w .at-i) in
+      let parted : M₁ ≡ (D ++ (S ++ N)) ++ Y = numbered-is M₁ m₁ ∙ sym (append-assoc D (S ++ N) Y ∙ ap (λ (l : List Mark). D ++ l) (append-assoc S N Y)) in
+      let front-part : take j M₁ ≡ D ++ (S ++ N) = ap (take j) parted ∙ take-at (D ++ (S ++ N)) Y j lP in
+      let back-part : drop j M₁ ≡ Y = ap (drop j) parted ∙ drop-at (D ++ (S ++ N)) Y j lP in
+      let came : brought from i (D ++ (S ++ N)) ≡ D ++ (N ++ S) =
+      ap₂ (λ (t r : List Mark). t ++ r) (take-parts D S N from i (w .at-from) lS)
+      (ap₂ (λ (x y : List Mark). x ++ y) (drop-parts D S N from i (w .at-from) lS) (slice-parts D S N from i (w .at-from) lS))
+      in
+      let moved : M₂ ≡ D ++ (N ++ (S ++ Y)) =
+      m₂
+      ∙ ap₂ (λ (x y : List Mark). x ++ y) (ap (brought from i) front-part ∙ came) back-part
+      ∙ append-assoc D (N ++ S) Y
+      ∙ ap (λ (l : List Mark). D ++ l) (append-assoc N S Y)
+      in
+      let wide : start + from + (length S + length X) ≡ start + j = omega (arith, w .at-i) in
+      let spanned : found₂ ≡ found ++ merged (start + from) S X =
+      f ∙ ap (λ (l : List Span). found ++ l) (sym (merged-some (start + from) S X (λ z. d (omega arith)) ∙ ap (λ (n : ℕ). Over (start + from) n ∷ []) wide))
+      in
+      let few : length found₂ ≤ pass + 1 = rw (f, length-append) (omega (arith, w .few)) in
+      let on : from + length X ≡ from + (j - i) = omega arith in
+      subst (λ (n : ℕ). Walking new start M₀ M₂ found₂ (from + (j - i)) n (pass + 1)) (sym e)
+      (subst (λ (n : ℕ). Walking new start M₀ M₂ found₂ n (i + length X) (pass + 1)) on (walk-next q s M₂ moved found₂ spanned few))
+
+  -- the block is empty
+  pub walk-none :
+      pass < 2 → Stops (classAt pass) (drop i M) → (j : ℕ) → j ≡ i + length found-block → i ≡ j
+      → (M₁ : List Mark) → M₁ ≡ take i M ++ (numbered (new (classAt pass)) found-block ++ behind-block)
+      → Walking new start M₀ M₁ found from i (pass + 1)
+  walk-none q s j e z M₁ m₁ =
+      let none : found-block ≡ [] = empty found-block (omega arith) in
+      let D : List Mark = w .done in
+      let stays : M₁ ≡ D ++ (numbered (new (classAt pass)) found-block ++ (w .skips ++ behind-block)) =
+      numbered-is M₁ m₁
+      ∙ ap (λ (x : List Mark). D ++ (w .skips ++ (numbered (new (classAt pass)) x ++ behind-block))) none
+      ∙ sym (ap (λ (x : List Mark). D ++ (numbered (new (classAt pass)) x ++ (w .skips ++ behind-block))) none)
+      in
+      let spanned : found ≡ found ++ merged (start + from) (w .skips) found-block =
+      sym (ap (λ (x : List Mark). found ++ merged (start + from) (w .skips) x) none ∙ append-nil found)
+      in
+      let on : from + length found-block ≡ from = omega arith in
+      let here : i + length found-block ≡ i = omega arith in
+      subst (λ (n : ℕ). Walking new start M₀ M₁ found from n (pass + 1)) here
+      (subst (λ (n : ℕ). Walking new start M₀ M₁ found n (i + length found-block) (pass + 1)) on (walk-next q s M₁ stays found spanned (omega (arith, w .few))))
 
   -- what is left is smaller than the classes of all passes to come
   ends : Low (drop pass reorderClasses) (w .skips ++ w .rest) → (found ≡ ranges start reorderClasses M₀) × (M ≡ passes new reorderClasses M₀)
@@ -240,8 +293,12 @@ module _ {low high start : ℕ} {codes₀ classes₀ codes classes : List ℕ} {
   walked-skipped class k s = rw (← walked-length) (s .fits)
 
   -- where the end is not reached, there is a mark at hand
-  pub walked-inside : (class k : ℕ) → Skipping (marks codes classes) class i k → (k ≡ length codes₀ → ⊥) → k < length codes
-  walked-inside class k s d = omega (arith, walked-skipped class k s, d, w .codes-keep)
+  pub walked-inside : (class k : ℕ) → Skipping (marks codes classes) class i k → k < length codes₀ → k < length codes
+  walked-inside class k s d = omega (arith, d, w .codes-keep)
+
+  -- where it is, all is skipped
+  pub walked-ended : (class k : ℕ) → Skipping (marks codes classes) class i k → length codes₀ ≤ k → k ≡ length (marks codes classes)
+  walked-ended class k s d = omega (arith, walked-skipped class k s, d, w .codes-keep, walked-length)
 
   -- it is skipped
   pub walked-on :
@@ -262,32 +319,46 @@ module _ {low high start : ℕ} {codes₀ classes₀ codes classes : List ℕ} {
     pub walked-fits : j ≤ length codes
     walked-fits = rw (e, ← walked-length) (front-fits (moves (classAt pass)) (marks codes classes) k (skips .fits))
 
-    -- the block is brought to the front of what is left
-    pub walked-takes :
-        k < length codes → classAt pass ≤ getD classes k 0 → (x y : List ℕ)
-        → length x ≡ length (take (j - from) (drop from codes)) → length y ≡ length (take (j - from) (drop from classes)) → (new : ℕ) → new ≡ newClass low high (classAt pass)
-        → marks x y ≡ brought (k - from) new (marks (take (j - from) (drop from codes)) (take (j - from) (drop from classes)))
-        → (more : Merged) → listed more ≡ listed found ++ cond (ltb k j) (Over (start + from) (start + j) ∷ []) []
-        → Walked low high start codes₀ classes₀
-        (take from codes ++ (x ++ drop (j - from) (drop from codes)))
-        (take from classes ++ (y ++ drop (j - from) (drop from classes)))
-        more (from + (j - k)) j (pass + 1)
-    walked-takes h l x y lx ly new n b more f =
-        let mid : (column : List ℕ) → length column ≡ length codes → length (take (j - from) (drop from column)) ≡ j - from = λ column same. mid-len from j column (rw same walked-fits) in
-        let put : length (take from codes ++ (x ++ drop (j - from) (drop from codes))) ≡ length codes = same-len-mid from (j - from) codes x lx in
-        let o : from ≤ k = walked-from in
-        let stops : Stops (classAt pass) (drop k (marks codes classes)) =
-        stops-at (marks codes classes) (classAt pass) k nothing (rw walked-length h) (rw (class-at codes classes k h walked-even) l)
-        in
-        let came : marks x y ≡ brought (k - from) (newClass low high (classAt pass)) (take (j - from) (drop from (marks codes classes))) =
-        b ∙ ap₂ (brought (k - from)) n (marks-mid from (j - from) codes classes)
-        in
-        record {
-          codes-keep = put ∙ w .codes-keep;
-          classes-keep = same-len-mid from (j - from) classes y ly ∙ w .classes-keep;
-          fits = rw put walked-fits;
-          walk =
-              walk-takes stands q stops j e (marks x y) came _
-              (marks-put from (j - from) codes classes x y (omega arith) walked-even (lx ∙ mid codes refl ∙ sym (ly ∙ mid classes (sym walked-even))))
-              (listed more) f;
-        }
+    stops : k < length codes → classAt pass ≤ getD classes k 0 → Stops (classAt pass) (drop k (marks codes classes))
+    stops h l = stops-at (marks codes classes) (classAt pass) k nothing (rw walked-length h) (rw (class-at codes classes k h walked-even) l)
+
+    -- the block gets its number in the column y
+    module _ (h : k < length codes) (l : classAt pass ≤ getD classes k 0) (y : List ℕ) (ly : length y ≡ length classes) (new : ℕ) (n : new ≡ newClass low high (classAt pass))
+        (b : marks codes y ≡ take k (marks codes classes) ++ (numbered new (front (moves (classAt pass)) (drop k (marks codes classes))) ++ behind (moves (classAt pass)) (drop k (marks codes classes)))) where
+      renumbered :
+          marks codes y
+          ≡ take k (marks codes classes)
+          ++ (numbered (newClass low high (classAt pass)) (front (moves (classAt pass)) (drop k (marks codes classes))) ++ behind (moves (classAt pass)) (drop k (marks codes classes)))
+      renumbered = rw (← n) b
+
+      pub numbered-even : length codes ≡ length y
+      numbered-even = walked-even ∙ sym ly
+
+      -- an empty one: the next pass begins here
+      pub walked-none : k ≡ j → Walked low high start codes₀ classes₀ codes y found from k (pass + 1)
+      walked-none z =
+          record {
+            codes-keep = w .codes-keep;
+            classes-keep = ly ∙ w .classes-keep;
+            fits = omega arith;
+            walk = walk-none stands q (stops h l) j e z (marks codes y) renumbered;
+          }
+
+      -- one that is not empty comes forward in both columns
+      pub walked-takes :
+          (k ≡ j → ⊥) → (u v : List ℕ) → length u ≡ length (take j codes) → length v ≡ length (take j y) → marks u v ≡ brought from k (marks (take j codes) (take j y))
+          → (more : Merged) → listed more ≡ listed found ++ (Over (start + from) (start + j) ∷ [])
+          → Walked low high start codes₀ classes₀ (u ++ drop j codes) (v ++ drop j y) more (from + (j - k)) j (pass + 1)
+      walked-takes d u v lu lv b₂ more f =
+          let fits : j ≤ length codes = walked-fits in
+          let whole : length (u ++ drop j codes) ≡ length codes = same-len j codes u lu in
+          let even : length u ≡ length v = lu ∙ length-take-le j codes fits ∙ sym (lv ∙ length-take-le j y (rw (← numbered-even) fits)) in
+          record {
+            codes-keep = whole ∙ w .codes-keep;
+            classes-keep = same-len j y v lv ∙ ly ∙ w .classes-keep;
+            fits = rw whole fits;
+            walk =
+                walk-takes stands q (stops h l) j e d (marks codes y) renumbered (marks (u ++ drop j codes) (v ++ drop j y))
+                (marks-first j codes y u v even ∙ ap (λ (r : List Mark). r ++ drop j (marks codes y)) (b₂ ∙ ap (brought from k) (marks-take j codes y)))
+                (listed more) f;
+          }

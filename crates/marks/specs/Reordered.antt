@@ -3,10 +3,10 @@
 -- and leaves, of every input.
 -- Assumes nothing.
 use mathlib.Core.Path.{_≡_}
-use mathlib.Core.Bool.{Bool, not, _&&_}
+use mathlib.Core.Bool.{not, _||_}
 use mathlib.Core.List.{List, [], _∷_, _++_}
 use Prim.Native.Nat.{ℕ}
-use lib.Dec.{eqb, leb}
+use lib.Dec.{eqb, ltb}
 use lib.ListN.{length, take, drop}
 use lib.Seq.{slice}
 use Rattle.laws.specs.Rows.{Row, Given, first}
@@ -71,9 +71,9 @@ rangesOf q c = ranges (q .start) reorderClasses (part q c)
 abbrev pub rowsOf : ℕ → ℕ → ℕ → ℕ → List Row
 rowsOf n m start end =
     Given 1 (not (eqb n m)) ∷
-    Given 2 (not (leb n lineLimit)) ∷
+    Given 2 (ltb lineLimit n) ∷
     -- "a range with start above end or end above the length"
-    Given 4 (not (leb start end && leb end n)) ∷
+    Given 4 (ltb end start || ltb n end) ∷
     []
 
 -- for a request on columns, and the number that it is refused with, 0 if it is not

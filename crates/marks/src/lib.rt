@@ -1,15 +1,14 @@
 // Marks: the public call that reorders modifier marks (UTR 53) in a part of a line.
 ghost use mathlib.Core.Path.{_≡_};
-ghost use mathlib.Core.Bool.{cond};
 ghost use mathlib.Core.List.{[], _∷_, _++_};
 ghost use Prim.Native.Nat.{_+_, _<_, _≤_};
-ghost use lib.ListN.{length, drop};
+ghost use lib.ListN.{length, take, drop};
 ghost use Rattle.laws.specs.Rows.{first};
 ghost use Rattle.refusals.specs.Numbers.{said};
 ghost use Rattle.refusals.specs.Columns.{lineLimit};
-ghost use Rattle.blocks.specs.Marks.{mark, marks};
+ghost use Rattle.blocks.specs.Marks.{mark, marks, numbered};
 ghost use Rattle.marks.specs.Modifiers.{modifier};
-ghost use Rattle.marks.specs.Passes.{Over, reorderClasses, newClass, front, moves, passes, ranges};
+ghost use Rattle.marks.specs.Passes.{Over, reorderClasses, newClass, front, behind, moves, passes, ranges};
 ghost use Rattle.marks.specs.Reordered.{requestOf, columnsOf, listed, rowsOf, Reordering};
 use letters::Code;
 use refusals::Refusal;
@@ -78,17 +77,19 @@ fn moved(code: Code, own: u8, class: u8) -> bool
     is_modifier(code)
 }
 
-// The end of the block of a class that begins at `i`.
-fn block_end(codes: &[u32], classes: &[u8], i: usize, class: u8) -> usize
+// Gives the marks of the block of a class that begins at `i` their new number, and says where the block ends.
+fn number_block(codes: &[u32], classes: &mut [u8], i: usize, class: u8, new: u8) -> usize
     requires { ⌜ length (now codes) ≡ length (now classes) ⌝ }
     requires { ⌜ i ≤ length (now codes) ⌝ }
-    ensures { λ r. ⌜ r ≡ i + length (front (moves class) (drop i (marks (now (codes .entry)) (now (classes .entry))))) ⌝ }
+    ensures ends { λ r. ⌜ r ≡ i + length (front (moves class) (drop i (marks (now (codes .entry)) (now (classes .entry))))) ⌝ }
+    ensures renumbered { λ _. ⌜ marks (now (codes .entry)) (now (classes .exit)) ≡ take i (marks (now (codes .entry)) (now (classes .entry))) ++ (numbered new (front (moves class) (drop i (marks (now (codes .entry)) (now (classes .entry))))) ++ behind (moves class) (drop i (marks (now (codes .entry)) (now (classes .entry))))) ⌝ }
 {
     let mut j = i;
     while j < codes.len() {
         if !moved(Code(codes[j]), classes[j], class) {
             return j;
         }
+        classes[j] = new;
         j += 1;
     }
     j
@@ -102,14 +103,11 @@ fn new_class(class: u8, low: u8, high: u8) -> u8
 }
 
 impl Merged {
-    // With one range more, of which there are at most two; without it where it has no block.
-    fn with(self, block: bool, from: usize, to: usize) -> Merged
+    // With one range more: there are at most two.
+    fn with(self, from: usize, to: usize) -> Merged
         requires { ⌜ length (listed self) < 2 ⌝ }
-        ensures { λ r. ⌜ listed r ≡ listed self ++ cond block (Over from to ∷ []) [] ⌝ }
+        ensures { λ r. ⌜ listed r ≡ listed self ++ (Over from to ∷ []) ⌝ }
     {
-        if !block {
-            return self;
-        }
         let range = Range { from: from, to: to };
         match self {
             Merged::Nothing => Merged::One(range),
@@ -134,7 +132,7 @@ fn reorder(codes: &mut [u32], classes: &mut [u8], start: usize, low: u8, high: u
     'passes: while pass < 2 {
         let class = CLASSES[pass];
         loop {
-            if i == end {
+            if end <= i {
                 break 'passes;
             }
             if class <= classes[i] {
@@ -142,17 +140,16 @@ fn reorder(codes: &mut [u32], classes: &mut [u8], start: usize, low: u8, high: u
             }
             i += 1;
         }
-        let j = block_end(codes, classes, i, class);
-        blocks::bring(
-            &mut codes[from..j],
-            &mut classes[from..j],
-            i - from,
-            new_class(class, low, high),
-        );
-        merged = merged.with(i < j, start + from, start + j);
-        from += j - i;
-        i = j;
-        pass += 1;
+        let j = number_block(codes, classes, i, class, new_class(class, low, high));
+        if i != j {
+            blocks::bring(&mut codes[..j], &mut classes[..j], from, i);
+            merged = merged.with(start + from, start + j);
+            from += j - i;
+            i = j;
+            pass += 1;
+        } else {
+            pass += 1;
+        }
     }
     merged
 }
@@ -161,11 +158,16 @@ fn reorder(codes: &mut [u32], classes: &mut [u8], start: usize, low: u8, high: u
 fn refused(n: usize, m: usize, start: usize, end: usize) -> Verdict
     ensures { λ r. ⌜ said r ≡ first (rowsOf n m start end) ⌝ }
 {
-    let inside = (start <= end) & (end <= n);
-    refusals::even(n, m).sooner(refusals::limited(n, refusals::LINE_LIMIT).sooner(refusals::unless(
-        inside,
-        Refusal::Place,
-    )))
+    if n != m {
+        return Verdict::Refused(Refusal::Uneven);
+    }
+    if refusals::LINE_LIMIT < n {
+        return Verdict::Refused(Refusal::TooLong);
+    }
+    if (end < start) | (n < end) {
+        return Verdict::Refused(Refusal::Place);
+    }
+    Verdict::Accepted
 }
 
 // Reorders the modifier marks of a part of a line: the blocks of classes 220 and 230 go to its front and get the lent classes `low` and `high`. Says which

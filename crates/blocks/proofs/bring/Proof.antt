@@ -26,7 +26,7 @@ slice-aggregate-turn-2 : tie.Need-slice-aggregate-turn-2
 slice-aggregate-turn-2 c = sym (length-take-le _ _ (fits (c .before .before .before .before)))
 
 turn-requires : tie.Need-turn-requires
-turn-requires c κs = 
+turn-requires c κs =
     let s = c .before .before .before .before in
     let codes = length-take-le (s .args .n) (s .args .codes .now) (s .pre .1 .1) in
     (codes ∙ sym (length-take-le _ _ (fits s)), rw codes (s .pre .1 .0))
@@ -44,7 +44,7 @@ same-length-2 : tie.Need-same-length-2
 same-length-2 c = search needs
 
 returns : tie.Need-returns
-returns c = 
+returns c =
     let s = c .before .before .before .before .before .before .before .before .before .before .before .before .before .before .before .before .before .before .before .before .before .before .before in
     let first = c .before .before .before .before .before .before .before .before .before .before .before .before .before .before .before .before .before .before .turn in
     c .before .before .before .before .turn3 .ensures

@@ -4,11 +4,11 @@ use mathlib.Core.Path.{_≡_, sym, _∙_}
 use Prim.Native.Nat.{_+_, _-_, _<_, _≤_}
 use native.Mathlib.Omega.{arith}
 use borrow.Author.Needs.{needs}
-use borrow.Rule.Slice.PartMut.{mid-len}
 use lib.ListN.{length}
+use lib.Seq.{length-take-le}
 use Rattle.refusals.specs.Columns.{lineLimit}
 use Rattle.blocks.specs.Marks.{marks}
-use Rattle.marks.proofs.WalkLaws.{Skipping, walk-skips, walk-over, walk-breaks, Walked, walked-begins, walked-even, walked-length, walked-skipping, walked-skipped, walked-inside, walked-on, walked-from, walked-block, walked-fits, walked-takes}
+use Rattle.marks.proofs.WalkLaws.{Skipping, walk-skips, walk-over, walk-breaks, Walked, walked-begins, walked-even, walked-skipping, walked-skipped, walked-inside, walked-ended, walked-on, walked-from, walked-block, walked-fits, numbered-even, walked-none, walked-takes}
 use Rattle.marks.proofs.reorder.Statement.{statement}
 use Rattle.marks.proofs.reorder.Tie as tie
 
@@ -49,87 +49,91 @@ loop-less c = search (needs, inside (c .before .before))
 loop-again : tie.Need-loop-again Inv-loop μ-loop Inv-passes μ-passes
 loop-again c = let p = c .before .before .before .before .before in walked-on (p .before .before .before .pre .0) (p .passes .inv) _ _ (inside (c .before .before)) (c .if1 .left) (c .before .before .before .loop .inv)
 
-block-end-requires : tie.Need-block-end-requires Inv-loop μ-loop Inv-passes μ-passes
-block-end-requires c κs = let p = c .before .before .before .before .before .before .before in (walked-even (p .before .before .before .pre .0) (p .passes .inv), walked-skipped (p .before .before .before .pre .0) (p .passes .inv) _ _ (c .before .before .before .before .before .loop .inv))
-
--- the block found: it ends in the part, and all places are small
-even : (c : tie.After-block-end Inv-loop μ-loop Inv-passes μ-passes) → let p = c .before .before .before .before .before .before .before .before .passes in length (p .codes) ≡ length (p .classes)
-even c = let p = c .before .before .before .before .before .before .before .before in walked-even (p .before .before .before .pre .0) (p .passes .inv)
-
-reached :
-    (c : tie.After-block-end Inv-loop μ-loop Inv-passes μ-passes)
-    → let p = c .before .before .before .before .before .before .before .before in
-    (p .passes .from ≤ c .before .before .before .before .before .before .loop .i) × (c .before .before .before .before .before .before .loop .i ≤ c .block-end .result) × (c .block-end .result ≤ length (p .passes .codes)) × (p .before .before .before .args .start + length (p .passes .codes) ≤ lineLimit)
-reached c =
-    let p = c .before .before .before .before .before .before .before .before in
-    let e = p .before .before .before .pre .0 in
-    let w = p .passes .inv in
-    let q = c .before .before .before .before .before .before .before .passes-test .taken in
-    let s = c .before .before .before .before .before .before .loop .inv in
-    let b = c .block-end .ensures in
-    (walked-from e w _ _ q s b, walked-block e w _ _ q s b, walked-fits e w _ _ q s b, rw (w .codes-keep) (p .before .before .before .pre .1))
-
-mul-bring : tie.Need-mul-bring Inv-loop μ-loop Inv-passes μ-passes
-mul-bring c = let r = reached (c) in omega (arith, r .0, r .1, r .2, r .3)
-
-sub-bring : tie.Need-sub-bring Inv-loop μ-loop Inv-passes μ-passes
-sub-bring c = let r = reached (c) in omega (arith, r .0, r .1)
-
-part-bring-start : tie.Need-part-bring-start Inv-loop μ-loop Inv-passes μ-passes
-part-bring-start c = let r = reached (c) in omega (arith, r .0, r .1)
-
-part-bring-end : tie.Need-part-bring-end Inv-loop μ-loop Inv-passes μ-passes
-part-bring-end c = reached (c) .2
-
-sub-bring-2 : tie.Need-sub-bring-2 Inv-loop μ-loop Inv-passes μ-passes
-sub-bring-2 c = let r = reached (c .before) in omega (arith, r .0, r .1)
-
-part-bring-start-2 : tie.Need-part-bring-start-2 Inv-loop μ-loop Inv-passes μ-passes
-part-bring-start-2 c = let r = reached (c .before) in omega (arith, r .0, r .1)
-
-part-bring-end-2 : tie.Need-part-bring-end-2 Inv-loop μ-loop Inv-passes μ-passes
-part-bring-end-2 c = rw (← even (c .before)) (reached (c .before) .2)
-
-sub-bring-3 : tie.Need-sub-bring-3 Inv-loop μ-loop Inv-passes μ-passes
-sub-bring-3 c = reached (c .before .before) .0
-
 new-class-requires : tie.Need-new-class-requires Inv-loop μ-loop Inv-passes μ-passes
 new-class-requires c κs = search needs
 
+number-block-requires : tie.Need-number-block-requires Inv-loop μ-loop Inv-passes μ-passes
+number-block-requires c κs = let p = c .before .before .before .before .before .before .before .before in (walked-even (p .before .before .before .pre .0) (p .passes .inv), walked-skipped (p .before .before .before .pre .0) (p .passes .inv) _ _ (c .before .before .before .before .before .before .loop .inv))
+
+-- the block found: it ends in the part, and all places are small
+reached :
+    (c : tie.After-number-block Inv-loop μ-loop Inv-passes μ-passes)
+    → let p = c .before .before .before .before .before .before .before .before .before in
+    (p .passes .from ≤ c .before .before .before .before .before .before .before .loop .i) × (c .before .before .before .before .before .before .before .loop .i ≤ c .number-block .result) × (c .number-block .result ≤ length (p .passes .codes)) × (p .before .before .before .args .start + length (p .passes .codes) ≤ lineLimit)
+reached c =
+    let p = c .before .before .before .before .before .before .before .before .before in
+    let e = p .before .before .before .pre .0 in
+    let w = p .passes .inv in
+    let q = c .before .before .before .before .before .before .before .before .passes-test .taken in
+    let s = c .before .before .before .before .before .before .before .loop .inv in
+    let b = c .number-block .ensures .0 in
+    (walked-from e w _ _ q s b, walked-block e w _ _ q s b, walked-fits e w _ _ q s b, rw (w .codes-keep) (p .before .before .before .pre .1))
+
+-- it ends in the classes, too
+fits : (c : tie.After-number-block Inv-loop μ-loop Inv-passes μ-passes) → c .number-block .result ≤ length (c .number-block .last .1 .0)
+fits c =
+    let p = c .before .before .before .before .before .before .before .before .before in
+    rw (← numbered-even (p .before .before .before .pre .0) (p .passes .inv) _ _ (c .before .before .before .before .before .before .before .before .passes-test .taken) (c .before .before .before .before .before .before .before .loop .inv) (c .number-block .ensures .0) (inside (c .before .before .before .before .before .before)) (c .before .before .before .before .if1 .taken) (c .number-block .last .1 .0) (c .number-block .kept .1 .0) (c .before .new-class .result) (c .before .new-class .ensures) (c .number-block .ensures .1)) (reached c .2)
+
+slice-relend-prefix-bring : tie.Need-slice-relend-prefix-bring Inv-loop μ-loop Inv-passes μ-passes
+slice-relend-prefix-bring c = reached (c .before .before .before) .2
+
+slice-aggregate-bring : tie.Need-slice-aggregate-bring Inv-loop μ-loop Inv-passes μ-passes
+slice-aggregate-bring c = sym (length-take-le _ _ (reached (c .before .before .before .before) .2))
+
+slice-relend-prefix-bring-2 :
+    tie.Need-slice-relend-prefix-bring-2 Inv-loop μ-loop Inv-passes μ-passes
+slice-relend-prefix-bring-2 c = fits (c .before .before .before .before)
+
+slice-aggregate-bring-2 : tie.Need-slice-aggregate-bring-2 Inv-loop μ-loop Inv-passes μ-passes
+slice-aggregate-bring-2 c = sym (length-take-le _ _ (fits (c .before .before .before .before .before)))
+
 bring-requires : tie.Need-bring-requires Inv-loop μ-loop Inv-passes μ-passes
 bring-requires c κs =
-    let r = reached (c .before .before .before) in
-    let codes = mid-len (c .before .before .before .before .before .before .before .before .before .before .before .passes .from) (c .before .before .before .block-end .result) (c .before .before .before .before .before .before .before .before .before .before .before .passes .codes) (r .2) in
-    let classes = mid-len (c .before .before .before .before .before .before .before .before .before .before .before .passes .from) (c .before .before .before .block-end .result) (c .before .before .before .before .before .before .before .before .before .before .before .passes .classes) (rw (← even (c .before .before .before)) (r .2)) in
-    (codes ∙ sym classes, rw codes (omega (arith, r .1)))
+    let b = c .before .before .before .before .before in
+    let r = reached b in
+    let codes = length-take-le (b .number-block .result) (b .before .before .before .before .before .before .before .before .before .passes .codes) (r .2) in
+    (codes ∙ sym (length-take-le _ _ (fits b)), (r .0, rw codes (r .1)))
 
 add-with : tie.Need-add-with Inv-loop μ-loop Inv-passes μ-passes
-add-with c = let r = reached (c .before .before .before .before .before .before .before .before) in omega (arith, r .0, r .1, r .2, r .3)
+add-with c = let r = reached (c .before .before .before .before .before .before .before .before .before .before) in omega (arith, r .0, r .1, r .2, r .3)
 
 add-with-2 : tie.Need-add-with-2 Inv-loop μ-loop Inv-passes μ-passes
-add-with-2 c = let r = reached (c .before .before .before .before .before .before .before .before) in omega (arith, r .2, r .3)
+add-with-2 c = let r = reached (c .before .before .before .before .before .before .before .before .before .before) in omega (arith, r .2, r .3)
 
 with-requires : tie.Need-with-requires Inv-loop μ-loop Inv-passes μ-passes
-with-requires c κs = omega (arith, c .before .before .before .before .before .before .before .before .before .before .before .before .before .before .before .before .passes .inv .walk .few, c .before .before .before .before .before .before .before .before .before .before .before .before .before .before .before .passes-test .taken)
+with-requires c κs = omega (arith, c .before .before .before .before .before .before .before .before .before .before .before .before .before .before .before .before .before .before .before .passes .inv .walk .few, c .before .before .before .before .before .before .before .before .before .before .before .before .before .before .before .before .before .before .passes-test .taken)
 
 sub-from : tie.Need-sub-from Inv-loop μ-loop Inv-passes μ-passes
-sub-from c = reached (c .before .before .before .before .before .before .before .before .before) .1
+sub-from c = reached (c .before .before .before .before .before .before .before .before .before .before .before) .1
 
 add-from : tie.Need-add-from Inv-loop μ-loop Inv-passes μ-passes
-add-from c = let r = reached (c .before .before .before .before .before .before .before .before .before) in omega (arith, r .0, r .1, r .2, r .3)
+add-from c = let r = reached (c .before .before .before .before .before .before .before .before .before .before .before) in omega (arith, r .0, r .1, r .2, r .3)
 
 add-pass : tie.Need-add-pass Inv-loop μ-loop Inv-passes μ-passes
-add-pass c = omega (arith, c .before .before .before .before .before .before .before .before .before .before .before .before .before .before .before .before .passes-test .taken)
+add-pass c = omega (arith, c .before .before .before .before .before .before .before .before .before .before .before .before .before .before .before .before .before .before .before .passes-test .taken)
 
 passes-less : tie.Need-passes-less Inv-loop μ-loop Inv-passes μ-passes
-passes-less c = search (needs, c .before .before .before .before .before .before .before .before .before .before .before .before .before .before .before .before .passes-test .taken)
+passes-less c = search (needs, c .before .before .before .before .before .before .before .before .before .before .before .before .before .before .before .before .before .before .before .passes-test .taken)
 
 passes-again : tie.Need-passes-again Inv-loop μ-loop Inv-passes μ-passes
 passes-again c =
-    let b = c .before .before .before .before .before .before .before .before .before in
-    let p = b .before .before .before .before .before .before .before .before in
+    let b = c .before .before .before .before .before .before .before .before .before .before .before in
+    let p = b .before .before .before .before .before .before .before .before .before in
     let moved = c .before .before .before .before .before .bring in
-    walked-takes (p .before .before .before .pre .0) (p .passes .inv) _ _ (b .before .before .before .before .before .before .before .passes-test .taken) (b .before .before .before .before .before .before .loop .inv) (b .block-end .ensures) (inside (b .before .before .before .before .before)) (b .before .before .before .if1 .taken) (moved .last .0) (moved .last .1 .0) (moved .kept .0) (moved .kept .1 .0) (c .before .before .before .before .before .before .new-class .result) (c .before .before .before .before .before .before .new-class .ensures) (moved .ensures) _ (c .with .ensures)
+    walked-takes (p .before .before .before .pre .0) (p .passes .inv) _ _ (b .before .before .before .before .before .before .before .before .passes-test .taken) (b .before .before .before .before .before .before .before .loop .inv) (b .number-block .ensures .0) (inside (b .before .before .before .before .before .before)) (b .before .before .before .before .if1 .taken) (b .number-block .last .1 .0) (b .number-block .kept .1 .0) (b .before .new-class .result) (b .before .new-class .ensures) (b .number-block .ensures .1) (c .before .before .before .before .before .before .before .before .if2 .taken) (moved .last .0) (moved .last .1 .0) (moved .kept .0) (moved .kept .1 .0) (moved .ensures) _ (c .with .ensures)
+
+add-pass-2 : tie.Need-add-pass-2 Inv-loop μ-loop Inv-passes μ-passes
+add-pass-2 c = omega (arith, c .before .before .before .before .before .before .before .before .before .before .before .passes-test .taken)
+
+passes-less-2 : tie.Need-passes-less-2 Inv-loop μ-loop Inv-passes μ-passes
+passes-less-2 c = search (needs, c .before .before .before .before .before .before .before .before .before .before .before .passes-test .taken)
+
+passes-again-2 : tie.Need-passes-again-2 Inv-loop μ-loop Inv-passes μ-passes
+passes-again-2 c =
+    let b = c .before .before .before in
+    let p = b .before .before .before .before .before .before .before .before .before in
+    walked-none (p .before .before .before .pre .0) (p .passes .inv) _ _ (b .before .before .before .before .before .before .before .before .passes-test .taken) (b .before .before .before .before .before .before .before .loop .inv) (b .number-block .ensures .0) (inside (b .before .before .before .before .before .before)) (b .before .before .before .before .if1 .taken) (b .number-block .last .1 .0) (b .number-block .kept .1 .0) (b .before .new-class .result) (b .before .new-class .ensures) (b .number-block .ensures .1) (c .if2 .left)
 
 same-length : tie.Need-same-length Inv-loop μ-loop Inv-passes μ-passes
 same-length c = c .before .passes .inv .codes-keep
@@ -151,7 +155,7 @@ returns-2 c =
     let p = c .before .before .before in
     let e = p .before .before .before .pre .0 in
     let w = p .passes .inv in
-    walk-breaks (walk-skips (w .walk) _ (c .before .before .passes-test .taken) (c .before .loop .inv)) (c .loop-test .taken ∙ sym (walked-length e w ∙ w .codes-keep))
+    walk-breaks (walk-skips (w .walk) _ (c .before .before .passes-test .taken) (c .before .loop .inv)) (walked-ended e w _ _ (c .before .loop .inv) (c .loop-test .taken))
 
 pub reorder-spec : {M : Type 1} → statement M
 reorder-spec =
@@ -168,16 +172,12 @@ reorder-spec =
     add-i
     loop-less
     loop-again
-    block-end-requires
-    mul-bring
-    sub-bring
-    part-bring-start
-    part-bring-end
-    sub-bring-2
-    part-bring-start-2
-    part-bring-end-2
-    sub-bring-3
     new-class-requires
+    number-block-requires
+    slice-relend-prefix-bring
+    slice-aggregate-bring
+    slice-relend-prefix-bring-2
+    slice-aggregate-bring-2
     bring-requires
     add-with
     add-with-2
@@ -187,6 +187,9 @@ reorder-spec =
     add-pass
     passes-less
     passes-again
+    add-pass-2
+    passes-less-2
+    passes-again-2
     same-length
     same-length-2
     returns

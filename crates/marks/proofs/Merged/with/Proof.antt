@@ -1,16 +1,9 @@
 -- `marks::Merged::with` meets its contract: where there are two ranges already, it was not to be asked.
 -- Assumes nothing.
-use mathlib.Core.Path.{_≡_, sym}
-use mathlib.Core.List.{append-nil}
 use native.Mathlib.Omega.{arith}
 use borrow.Author.Needs.{needs}
-use borrow.Author.Tests.{not-true, not-false}
-use Rattle.marks.specs.Reordered.{listed}
 use Rattle.marks.proofs.Merged.with.Statement.{statement}
 use Rattle.marks.proofs.Merged.with.Tie as tie
-
-returns : tie.Need-returns
-returns c = rw (not-true (c .before .args .block) (c .if1 .taken)) (sym (append-nil (listed (c .before .args .self))))
 
 enum-told : tie.Need-enum-told
 enum-told c = search needs
@@ -21,16 +14,15 @@ enum-known-self c = search needs
 enum-known-self-2 : tie.Need-enum-known-self-2
 enum-known-self-2 c = search needs
 
+returns : tie.Need-returns
+returns c = rw (c .enum-told .given .1)
+
 returns-2 : tie.Need-returns-2
-returns-2 c = rw (c .enum-told .given .1, not-false (c .before .before .before .args .block) (c .before .before .if1 .left))
+returns-2 c = rw (c .before .self .given .1)
 
 returns-3 : tie.Need-returns-3
-returns-3 c = rw (c .before .self .given .1, not-false (c .before .before .before .before .args .block) (c .before .before .before .if1 .left))
-
-returns-4 : tie.Need-returns-4
-returns-4 c = let h = c .before .before .before .before .pre in absurd (omega (arith, rw (c .before .self2 .given .1) at h))
+returns-3 c = let h = c .before .before .before .pre in absurd (omega (arith, rw (c .before .self2 .given .1) at h))
 
 pub with-spec : {M : Type 1} → statement M
 with-spec =
-    tie.close
-    (tie.spec returns enum-told enum-known-self enum-known-self-2 returns-2 returns-3 returns-4)
+    tie.close (tie.spec enum-told enum-known-self enum-known-self-2 returns returns-2 returns-3)

@@ -68,6 +68,12 @@ classes-marks [] (k ∷ ks) e = absurd (omega arith)
 classes-marks (c ∷ cs) [] e = absurd (omega arith)
 classes-marks (c ∷ cs) (k ∷ ks) e = ap (λ (l : List ℕ). k ∷ l) (classes-marks cs ks (omega arith))
 
+-- one list, one pair of columns
+pub marks-once :
+    (a b c d : List ℕ) → length a ≡ length b → length c ≡ length d → marks a b ≡ marks c d → (a ≡ c) × (b ≡ d)
+marks-once a b c d e f m =
+    (sym (codes-marks a b e) ∙ ap codesOf m ∙ codes-marks c d f, sym (classes-marks a b e) ∙ ap classesOf m ∙ classes-marks c d f)
+
 pub marks-columns : (l : List Mark) → marks (codesOf l) (classesOf l) ≡ l
 marks-columns [] = refl
 marks-columns (m ∷ l) = ap (λ (x : List Mark). m ∷ x) (marks-columns l)

@@ -1,11 +1,10 @@
--- Two columns as one list of marks: its length, an element, a store, its parts, and its columns again.
+-- Two columns as one list of marks: its length, an element, a store, its parts, and its columns again, of which there is one pair (`marks-once`).
 -- Assumes nothing.
-use mathlib.Core.Path.{_≡_, refl, sym, ap, ap₂, _∙_}
+use mathlib.Core.Path.{_≡_, refl, sym, ap, _∙_}
 use mathlib.Core.List.{List, [], _∷_, _++_, map}
-use Prim.Native.Nat.{ℕ, zero, suc, _+_, _-_, _≤_, _<_}
+use Prim.Native.Nat.{ℕ, zero, suc, _<_}
 use native.Mathlib.Omega.{arith}
 use lib.ListN.{length, getD, take, drop, set}
-use lib.Seq.{slice}
 use Rattle.blocks.specs.Marks.{Mark, mark, marks, codesOf, classesOf}
 
 pub nothing : Mark
@@ -47,9 +46,6 @@ marks-drop zero cs ks = refl
 marks-drop (suc n) [] ks = refl
 marks-drop (suc n) (c ∷ cs) [] = marks-none (drop n cs)
 marks-drop (suc n) (c ∷ cs) (k ∷ ks) = marks-drop n cs ks
-
-pub marks-slice : (a b : ℕ) (cs ks : List ℕ) → marks (slice a b cs) (slice a b ks) ≡ slice a b (marks cs ks)
-marks-slice a b cs ks = marks-drop a (take b cs) (take b ks) ∙ ap (drop a) (marks-take b cs ks)
 
 pub marks-append : (a b c d : List ℕ) → length a ≡ length c → marks (a ++ b) (c ++ d) ≡ marks a c ++ marks b d
 marks-append [] b [] d e = refl

@@ -1,6 +1,6 @@
 -- What is known of a line whose part was reordered: outside the part both columns stay (`outside-codes`, `outside-classes`).
 -- Assumes nothing.
-use mathlib.Core.Path.{_≡_, sym, ap, _∙_}
+use mathlib.Core.Path.{sym, ap, _∙_}
 use mathlib.Core.List.{map}
 use Prim.Native.Nat.{ℕ}
 use lib.ListN.{length-map}

@@ -62,7 +62,7 @@ Arranged =
 abbrev pub withCode : ℕ → List Mark → ℕ
 withCode code l = length (those (λ m. eqb (m .code) code) l)
 
--- No mark is lost or doubled: each code stands there as often as before.
+-- No code is lost or doubled: each stands there as often as before.
 abbrev pub NothingLost : Type 0
 NothingLost =
     (q : Request) (c : Columns) (r : Answer) (d : Columns) → Reordering q c r d → numberSaid r ≡ 0

@@ -1,16 +1,16 @@
--- What a pass does. Once it has skipped a and stands at b (`skipped-is`, `block-is`, `others-is`); that marks which are all smaller stay (`passes-low`, `ranges-low`); the range
--- of a block (`merged-some`); and the end of a block, mark by mark (`front-more`, `front-ends`).
+-- What a pass does. Its three parts (`pass-parts`); what it gives once it has skipped a and stands at b (`passes-is`, `ranges-is`); that marks which are all smaller stay (`passes-low`, `ranges-low`); as
+-- many marks as before (`length-passes`); the range of a block (`merged-some`); and the end of a block, mark by mark (`front-more`, `front-fails`, `front-ends`, `front-fits`).
 -- Assumes nothing.
 use mathlib.Core.Path.{_≡_, refl, sym, ap, ap₂, _∙_}
 use mathlib.Core.Bool.{Bool, true, false, cond}
 use mathlib.Core.List.{List, [], _∷_, _++_, append-nil}
-use Prim.Native.Nat.{ℕ, suc, _+_, _≤_, _<_}
+use Prim.Native.Nat.{ℕ, _+_, _≤_, _<_}
 use native.Mathlib.Omega.{arith}
 use borrow.Author.Tests.{lt-ltb, le-ltb}
 use lib.ListN.{length, getD, drop, drop-of-length-le, length-append, length-drop, length-map}
 use Rattle.laws.proofs.LoopLaws.{drop-next}
 use Rattle.blocks.specs.Marks.{Mark, renumber, numbered}
-use Rattle.marks.specs.Passes.{front, behind, smaller, moves, skipped, block, others, passes, Span, Over, merged, ranges}
+use Rattle.marks.specs.Passes.{front, behind, smaller, moves, skipped, block, others, passes, Over, merged, ranges}
 
 -- every mark is of a class below c
 abbrev pub Below : ℕ → List Mark → Type 0
@@ -117,7 +117,7 @@ ranges-low start (c ∷ cs) l p =
     let e = append-nil l in
     ap (ranges start (c ∷ cs)) (sym e) ∙ ranges-is c l [] (p .0) tt start cs ∙ ap (ranges (start + 0) cs) e ∙ ranges-low (start + 0) cs l (p .1)
 
--- no mark is lost or doubled
+-- as many marks as before
 pub length-passes : (new : ℕ → ℕ) (cs : List ℕ) (l : List Mark) → length (passes new cs l) ≡ length l
 unfolding passes
 length-passes new [] l = refl

@@ -2,12 +2,10 @@
 -- `walk-takes`, `walk-over`, `walk-breaks`); and the skipping, mark by mark (`Skipping`).
 -- Assumes nothing.
 use mathlib.Core.Path.{_≡_, refl, sym, ap, ap₂, _∙_, subst}
-use mathlib.Core.Bool.{Bool, true, false, cond}
 use mathlib.Core.List.{List, [], _∷_, _++_, append-assoc, append-nil}
 use Prim.Native.Nat.{ℕ, zero, suc, _+_, _-_, _≤_, _<_}
 use native.Mathlib.Omega.{arith}
 use borrow.Table.Elements.{same-len}
-use lib.Dec.{ltb}
 use lib.ListN.{length, getD, take, drop, length-append, length-map, drop-of-length-le}
 use lib.Seq.{slice, slice-empty, length-slice, take-suc, drop-append-le, length-take-le, take-at, drop-at}
 use native.Mathlib.Numerals.{add-one}
@@ -20,7 +18,7 @@ use Rattle.marks.specs.declared.Merged.{Merged}
 use Rattle.marks.specs.declared.Merged.the-variants.{Nothing}
 use Rattle.marks.specs.Passes.{front, behind, moves, reorderClasses, newClass, passes, Span, Over, merged, ranges}
 use Rattle.marks.specs.Reordered.{listed}
-use Rattle.marks.proofs.PassLaws.{Below, below-raise, below-append, Low, Stops, front-behind, front-fits, passes-is, ranges-is, passes-low, ranges-low, merged-some}
+use Rattle.marks.proofs.PassLaws.{Below, below-raise, below-append, Low, Stops, front-fits, passes-is, ranges-is, passes-low, ranges-low, merged-some}
 
 -- the class of a pass
 abbrev pub classAt : ℕ → ℕ
@@ -106,12 +104,6 @@ module _ {new : ℕ → ℕ} {start : ℕ} {M₀ M : List Mark} {found : List Sp
 
   rest-is : drop i M ≡ w .rest
   rest-is = ap (drop i) (w .is ∙ sym (append-assoc (w .done) (w .skips) (w .rest))) ∙ drop-at (w .done ++ w .skips) (w .rest) i begun
-
-  from-is : drop from M ≡ w .skips ++ w .rest
-  from-is = ap (drop from) (w .is) ∙ drop-at (w .done) (w .skips ++ w .rest) from (w .at-from)
-
-  done-is : take from M ≡ w .done
-  done-is = ap (take from) (w .is) ∙ take-at (w .done) (w .skips ++ w .rest) from (w .at-from)
 
   pub walk-order : from ≤ i
   walk-order = omega (arith, w .at-i)

@@ -10,7 +10,7 @@ abbrev pub member : ℕ → List ℕ → Bool
 member x [] = false
 member x (y ∷ ys) = eqb y x || member x ys
 
--- "the source's list of 14 codes", and UTR 53's of modifier combining marks
+-- "the source's list of 14 codes"
 abbrev pub modifiers : List ℕ
 modifiers =
     0x0654 ∷ 0x0655 ∷ 0x0658 ∷ 0x06DC ∷ 0x06E3 ∷ 0x06E7 ∷ 0x06E8 ∷ 0x08CA ∷ 0x08CB ∷ 0x08CD ∷ 0x08CE ∷ 0x08CF ∷ 0x08D3 ∷ 0x08F3 ∷ []

@@ -1,6 +1,7 @@
 -- What UTR 53 says of modifier combining marks (MCM), for a sequence of marks in canonical order: `Least`, `Rising` that order; `those` marks by a test; `ofClass`, `isModifier` tests of a mark;
 -- `lead`, `without` the MCM at the beginning of the sequence of a class, and all others; `toBeginning` a step of the algorithm; `utr53` its two steps for these marks; `arranged` what they come
--- to, with the classes renumbered. The step before these, which moves shadda, is not done here.
+-- to, with the classes renumbered. The step before these, which moves shadda, is not done here. That document
+-- speaks of marks of classes above 0; nothing here asks for it.
 -- Assumes nothing.
 use mathlib.Core.Bool.{Bool, cond}
 use mathlib.Core.List.{List, [], _∷_, _++_}

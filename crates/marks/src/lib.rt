@@ -54,7 +54,7 @@ const MODIFIER_COMBINING_MARKS: [u32; 14] = [
 // The classes of the two passes.
 const CLASSES: [u8; 2] = [220, 230];
 
-// The mark is one of the fourteen. The whole list is searched, so that the compiler can compare many at once.
+// The mark is one of the fourteen. The whole list is searched: the compiler makes tests of single bits of that.
 fn is_modifier(code: Code) -> bool
     ensures { λ r. ⌜ r ≡ modifier (code .0) ⌝ }
 {
@@ -148,6 +148,7 @@ fn reorder(codes: &mut [u32], classes: &mut [u8], start: usize, low: u8, high: u
             i = j;
             pass += 1;
         } else {
+            // here again, so that the proof has no two ways to join behind the choice
             pass += 1;
         }
     }

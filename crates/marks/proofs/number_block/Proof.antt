@@ -1,6 +1,6 @@
 -- `marks::number_block` meets its contract: the marks of the block get their number one by one, up to the first that does not belong to it.
 -- Assumes nothing.
-use mathlib.Core.Path.{_≡_, sym, _∙_}
+use mathlib.Core.Path.{sym, _∙_}
 use Prim.Native.Nat.{_-_, _<_}
 use native.Mathlib.Omega.{arith}
 use borrow.Author.Needs.{needs}

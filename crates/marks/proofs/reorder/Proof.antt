@@ -1,6 +1,6 @@
 -- `marks::reorder` meets its contract: the walk skips, takes a block, goes on with the next pass, and ends with the passes or at the end of the part.
 -- Assumes nothing.
-use mathlib.Core.Path.{_≡_, sym, _∙_}
+use mathlib.Core.Path.{sym, _∙_}
 use Prim.Native.Nat.{_+_, _-_, _<_, _≤_}
 use native.Mathlib.Omega.{arith}
 use borrow.Author.Needs.{needs}
@@ -93,7 +93,7 @@ bring-requires c κs =
     let b = c .before .before .before .before .before in
     let r = reached b in
     let codes = length-take-le (b .number-block .result) (b .before .before .before .before .before .before .before .before .before .passes .codes) (r .2) in
-    (codes ∙ sym (length-take-le _ _ (fits b)), (r .0, rw codes (r .1)))
+    (codes ∙ sym (length-take-le _ _ (fits b)), (omega (arith, r .0, r .1), rw codes (omega (arith, r .0, r .1))))
 
 add-with : tie.Need-add-with Inv-loop μ-loop Inv-passes μ-passes
 add-with c = let r = reached (c .before .before .before .before .before .before .before .before .before .before) in omega (arith, r .0, r .1, r .2, r .3)
@@ -105,7 +105,7 @@ with-requires : tie.Need-with-requires Inv-loop μ-loop Inv-passes μ-passes
 with-requires c κs = omega (arith, c .before .before .before .before .before .before .before .before .before .before .before .before .before .before .before .before .before .before .before .passes .inv .walk .few, c .before .before .before .before .before .before .before .before .before .before .before .before .before .before .before .before .before .before .passes-test .taken)
 
 sub-from : tie.Need-sub-from Inv-loop μ-loop Inv-passes μ-passes
-sub-from c = reached (c .before .before .before .before .before .before .before .before .before .before .before) .1
+sub-from c = let r = reached (c .before .before .before .before .before .before .before .before .before .before .before) in omega (arith, r .0, r .1)
 
 add-from : tie.Need-add-from Inv-loop μ-loop Inv-passes μ-passes
 add-from c = let r = reached (c .before .before .before .before .before .before .before .before .before .before .before) in omega (arith, r .0, r .1, r .2, r .3)

@@ -2,7 +2,6 @@
 -- Assumes nothing.
 use mathlib.Core.Path.{_≡_, refl, sym, ap, ap₂, _∙_}
 use mathlib.Core.List.{[]}
-use Prim.Native.Nat.{_+_}
 use native.Mathlib.Omega.{arith}
 use borrow.Author.Needs.{needs}
 use borrow.Rule.Slice.PartMut.{mid-len}
@@ -53,22 +52,22 @@ mul-reorder : tie.Need-mul-reorder
 mul-reorder c = let a = given (c) in omega (arith, a .few, a .order, a .inside)
 
 sub-reorder : tie.Need-sub-reorder
-sub-reorder c = given (c) .order
+sub-reorder c = let a = given (c) in omega (arith, a .order, a .inside)
 
 part-reorder-start : tie.Need-part-reorder-start
-part-reorder-start c = given (c) .order
+part-reorder-start c = let a = given (c) in omega (arith, a .order, a .inside)
 
 part-reorder-end : tie.Need-part-reorder-end
-part-reorder-end c = given (c) .inside
+part-reorder-end c = let a = given (c) in omega (arith, a .order, a .inside)
 
 sub-reorder-2 : tie.Need-sub-reorder-2
-sub-reorder-2 c = given (c .before) .order
+sub-reorder-2 c = let a = given (c .before) in omega (arith, a .order, a .inside)
 
 part-reorder-start-2 : tie.Need-part-reorder-start-2
-part-reorder-start-2 c = given (c .before) .order
+part-reorder-start-2 c = let a = given (c .before) in omega (arith, a .order, a .inside)
 
 part-reorder-end-2 : tie.Need-part-reorder-end-2
-part-reorder-end-2 c = let a = given (c .before) in rw (← a .even) (a .inside)
+part-reorder-end-2 c = let a = given (c .before) in omega (arith, a .even, a .order, a .inside)
 
 reorder-requires : tie.Need-reorder-requires
 reorder-requires c κs =

@@ -1,5 +1,5 @@
 -- Marks, and what moving a block of them does: `Mark` a code with its class; `marks` two columns as one list; `codesOf`, `classesOf` its columns;
--- `renumber`, `numbered` a class number given anew; `brought` a block brought forward.
+-- `brought` a block brought forward.
 -- Assumes nothing.
 use mathlib.Core.List.{List, [], _∷_, _++_, map}
 use Prim.Native.Nat.{ℕ}
@@ -26,13 +26,6 @@ codesOf l = map (λ m. m .code) l
 
 abbrev pub classesOf : List Mark → List ℕ
 classesOf l = map (λ m. m .class) l
-
--- marks that all get the class k
-abbrev pub renumber : ℕ → Mark → Mark
-renumber k m = mark (m .code) k
-
-abbrev pub numbered : ℕ → List Mark → List Mark
-numbered k l = map (renumber k) l
 
 -- the marks from n on go to a, before those that stood from there to n; all keep their order
 abbrev pub brought : ℕ → ℕ → List Mark → List Mark

@@ -11,9 +11,9 @@ use lib.Dec.{ltb}
 use lib.ListN.{length, getD, take, drop, length-append, length-map}
 use lib.Seq.{getD-append-add, length-take-le}
 use Rattle.laws.proofs.PartLaws.{three-parts, same-behind, same-before}
-use Rattle.blocks.specs.Marks.{Mark, mark, renumber, numbered}
+use Rattle.blocks.specs.Marks.{Mark, mark}
 use Rattle.blocks.proofs.MarkLaws.{length-marks, codes-marks, classes-marks, column-at}
-use Rattle.marks.specs.Passes.{Span, merged, skipped, block, others, behind, smaller, moves, reorderClasses, newClass, passes, ranges}
+use Rattle.marks.specs.Passes.{Span, merged, skipped, block, others, behind, smaller, moves, reorderClasses, newClass, passes, ranges, renumber, numbered}
 use Rattle.marks.specs.Reordered.{Request, Columns, line, part, newPart, newLine, reordered, rangesOf}
 use Rattle.marks.proofs.PassLaws.{pass-parts, length-passes}
 use Rattle.marks.proofs.ReorderedLaws.{Allowed}

@@ -9,8 +9,8 @@ use native.Mathlib.Omega.{arith}
 use borrow.Author.Tests.{lt-ltb, le-ltb}
 use lib.ListN.{length, getD, drop, drop-of-length-le, length-append, length-drop, length-map}
 use Rattle.laws.proofs.LoopLaws.{drop-next}
-use Rattle.blocks.specs.Marks.{Mark, renumber, numbered}
-use Rattle.marks.specs.Passes.{front, behind, smaller, moves, skipped, block, others, passes, Over, merged, ranges}
+use Rattle.blocks.specs.Marks.{Mark}
+use Rattle.marks.specs.Passes.{front, behind, smaller, moves, skipped, block, others, passes, Over, merged, ranges, renumber, numbered}
 
 -- every mark is of a class below c
 abbrev pub Below : ℕ → List Mark → Type 0

@@ -10,9 +10,9 @@ use native.Mathlib.Omega.{arith}
 use borrow.Author.Tests.{ne-eqb, le-ltb, eqb-true, eqb-false, ltb-true, ltb-false}
 use lib.Dec.{ltb}
 use lib.ListN.{length, length-append, length-map}
-use Rattle.blocks.specs.Marks.{Mark, codesOf, renumber, numbered}
+use Rattle.blocks.specs.Marks.{Mark, codesOf}
 use Rattle.marks.specs.Modifiers.{modifier}
-use Rattle.marks.specs.Passes.{front, behind, smaller, moves, skipped, block, others, reorderClasses, newClass, passes}
+use Rattle.marks.specs.Passes.{front, behind, smaller, moves, skipped, block, others, reorderClasses, newClass, passes, renumber, numbered}
 use Rattle.marks.proofs.PassLaws.{pass-parts}
 use Rattle.marks.specs.Utr53.{Least, Rising, those, ofClass, isModifier, lead, without, toBeginning, utr53, arranged}
 

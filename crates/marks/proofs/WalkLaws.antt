@@ -13,10 +13,10 @@ use Rattle.laws.proofs.LoopLaws.{drop-next}
 use Rattle.laws.proofs.PartLaws.{take-parts, slice-parts, drop-parts, drop-parted}
 use Rattle.blocks.proofs.MarkLaws.{nothing, length-marks, class-at, marks-take}
 use Rattle.blocks.proofs.BlockLaws.{marks-first}
-use Rattle.blocks.specs.Marks.{Mark, marks, renumber, numbered, brought}
+use Rattle.blocks.specs.Marks.{Mark, marks, brought}
 use Rattle.marks.specs.declared.Merged.{Merged}
 use Rattle.marks.specs.declared.Merged.the-variants.{Nothing}
-use Rattle.marks.specs.Passes.{front, behind, moves, reorderClasses, newClass, passes, Span, Over, merged, ranges}
+use Rattle.marks.specs.Passes.{front, behind, moves, reorderClasses, newClass, passes, Span, Over, merged, ranges, renumber, numbered}
 use Rattle.marks.specs.Reordered.{listed}
 use Rattle.marks.proofs.PassLaws.{Below, below-raise, below-append, Low, Stops, front-fits, passes-is, ranges-is, passes-low, ranges-low, merged-some}
 

@@ -1,14 +1,14 @@
 -- Reordering of modifier marks over a part of a line (document 01, "Marks"; the passes of the source), as a list of marks: `front`, `behind` the marks up to the first that
 -- fails a test, and those from it on; `smaller`, `moves` the tests of a pass; `skipped`, `block`, `others` what a pass leaves where it is, what it moves, and all that it does not move;
--- `reorderClasses` the classes of the passes; `newClass` the number that a block gets; `passes` the marks after the passes;
+-- `reorderClasses` the classes of the passes; `newClass`, `renumber`, `numbered` the number that a block gets; `passes` the marks after the passes;
 -- `Span`, `merged`, `ranges` the ranges given to `merge_clusters`.
 -- Assumes nothing.
 use mathlib.Core.Bool.{Bool, cond, _&&_}
-use mathlib.Core.List.{List, [], _∷_, _++_}
+use mathlib.Core.List.{List, [], _∷_, _++_, map}
 use Prim.Native.Nat.{ℕ, _+_}
 use lib.Dec.{eqb, ltb}
 use lib.ListN.{length}
-use Rattle.blocks.specs.Marks.{Mark, numbered}
+use Rattle.blocks.specs.Marks.{Mark, mark}
 use Rattle.marks.specs.Modifiers.{modifier}
 
 -- the marks before the first that fails the test: all, if none fails
@@ -46,6 +46,13 @@ reorderClasses = 220 ∷ 230 ∷ []
 -- "They get one of two lent class numbers": `low` for 220, `high` for 230
 abbrev pub newClass : ℕ → ℕ → ℕ → ℕ
 newClass low high class = cond (eqb class 220) low high
+
+-- marks that all get the class k
+abbrev pub renumber : ℕ → Mark → Mark
+renumber k m = mark (m .code) k
+
+abbrev pub numbered : ℕ → List Mark → List Mark
+numbered k l = map (renumber k) l
 
 -- a pass moves its block to the front; the next one, for which "start advances past them", is over the others. "At the end of the range it leaves both
 -- passes at once" needs no case of its own: what a pass has skipped is smaller than the next class too

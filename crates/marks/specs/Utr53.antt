@@ -7,9 +7,9 @@ use mathlib.Core.Bool.{Bool, cond}
 use mathlib.Core.List.{List, [], _∷_, _++_}
 use Prim.Native.Nat.{ℕ, _≤_}
 use lib.Dec.{eqb}
-use Rattle.blocks.specs.Marks.{Mark, numbered}
+use Rattle.blocks.specs.Marks.{Mark}
 use Rattle.marks.specs.Modifiers.{modifier}
-use Rattle.marks.specs.Passes.{front}
+use Rattle.marks.specs.Passes.{front, numbered}
 
 -- no class is below c
 abbrev pub Least : ℕ → List Mark → Type 0

@@ -16,9 +16,9 @@ use Rattle.marks.specs.Passes.{reorderClasses, newClass}
 use Rattle.marks.specs.Reordered.{Request, Columns, Outcome, outcome, listed, part, newPart, reordered, rangesOf, reorderRows, reorderRefusal, numberSaid, rangesSaid, reorderAfter, Reordering}
 use Rattle.marks.proofs.ReorderedLaws.{same-answer, Allowed, allowed, length-part, part-afterwards}
 use Rattle.marks.proofs.UtrLaws.{passes-utr53, passes-arranged, number-passes, plain-passes}
-use Rattle.demands.specs.Marks.{OneAnswer, RefusedStays, SmallestNumber, OnlyThePart, ByUtr53, Arranged, NothingLost, OthersStay, AtMostTwo, ChangesMerged}
+use Rattle.demands.specs.Marks.{OneAnswer, RefusedStays, SmallestNumber, OnlyThePart, ByUtr53, Arranged, NothingLost, OthersStay, AtMostTwo, RangeOfEach, ChangesMerged}
 use Rattle.demands.proofs.PartLaws.{outside-codes, outside-classes}
-use Rattle.demands.proofs.RangeLaws.{ranges-within, columns-outside}
+use Rattle.demands.proofs.RangeLaws.{ranges-within, ranges-of-each, columns-outside}
 
 pub one-answer : OneAnswer
 one-answer q c r u d e x y =
@@ -83,6 +83,9 @@ pub at-most-two : AtMostTwo
 at-most-two q c (Reordered m) d x =
     (two-listed m, rw (ranges-left q c (Reordered m) d x refl) (ranges-within q (q .start) reorderClasses (part q c) (omega arith) (omega (arith, length-part q c (accepted q c (Reordered m) d x refl)))))
 at-most-two q c (Refused k) d x = (omega arith, tt)
+
+pub range-of-each : RangeOfEach
+range-of-each q c r d x z up = ranges-left q c r d x z ∙ ranges-of-each (q .start) (part q c) up
 
 pub changes-merged : ChangesMerged
 changes-merged q c (Reordered m) d x p h =

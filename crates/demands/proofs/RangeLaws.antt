@@ -1,23 +1,25 @@
--- The ranges of mark reordering lie within the marks that the passes go over (`ranges-within`), and miss nothing: a place in none of them keeps its mark (`kept-outside`, `line-outside`, `columns-outside`).
+-- The ranges of mark reordering lie within the marks that the passes go over (`ranges-within`); where classes do not fall there is one for each block (`ranges-of-each`); and they miss nothing: a place in none of them keeps its mark (`kept-outside`, `line-outside`, `columns-outside`).
 -- Assumes nothing.
-use mathlib.Core.Path.{_≡_, refl, sym, ap, _∙_, subst}
-use mathlib.Core.Bool.{Bool, true, false}
-use mathlib.Core.List.{List, [], _∷_, _++_, map}
+use mathlib.Core.Path.{_≡_, refl, sym, ap, ap₂, _∙_, subst}
+use mathlib.Core.Bool.{Bool, true, false, cond}
+use mathlib.Core.List.{List, [], _∷_, _++_, map, append-nil}
 use mathlib.Core.Logic.{inl, inr}
-use Prim.Native.Nat.{ℕ, _+_, _-_, _≤_, _<_}
+use Prim.Native.Nat.{ℕ, suc, _+_, _-_, _≤_, _<_}
 use native.Mathlib.Omega.{arith}
-use borrow.Author.Tests.{ltb-true, ltb-false}
+use borrow.Author.Tests.{lt-ltb, le-ltb, ltb-true, ltb-false, eqb-true}
 use lib.Dec.{ltb}
 use lib.ListN.{length, getD, take, drop, length-append, length-map}
 use lib.Seq.{getD-append-add, length-take-le}
 use Rattle.laws.proofs.PartLaws.{three-parts, same-behind, same-before}
 use Rattle.blocks.specs.Marks.{Mark, mark}
 use Rattle.blocks.proofs.MarkLaws.{length-marks, codes-marks, classes-marks, column-at}
-use Rattle.marks.specs.Passes.{Span, merged, skipped, block, others, behind, smaller, moves, reorderClasses, newClass, passes, ranges, renumber, numbered}
+use Rattle.marks.specs.Passes.{Span, Over, merged, skipped, block, others, behind, smaller, moves, reorderClasses, newClass, passes, ranges, renumber, numbered}
 use Rattle.marks.specs.Reordered.{Request, Columns, line, part, newPart, newLine, reordered, rangesOf}
 use Rattle.marks.proofs.PassLaws.{pass-parts, length-passes}
 use Rattle.marks.proofs.ReorderedLaws.{Allowed}
-use Rattle.demands.specs.Marks.{AllWithin, Covered}
+use Rattle.marks.specs.Utr53.{Least, Rising, those, ofClass, isModifier, lead, without}
+use Rattle.marks.proofs.UtrLaws.{lead-without, pass-step, rising-without}
+use Rattle.demands.specs.Marks.{AllWithin, beneath, spanned, Covered}
 
 length-parts : (k : ℕ) (l : List Mark) → (length (skipped k l) + length (block k l) ≤ length l) × (length (block k l) + length (others k l) ≡ length l)
 length-parts k l =
@@ -112,3 +114,68 @@ columns-outside q c a p h =
     λ f. column-at f (newLine q c) p (mark 0 0) ∙ ap f (line-outside q c a p (mark 0 0) h) ∙ sym (column-at f (line c) p (mark 0 0))
     in
     (column (λ m. m .code) ∙ ap (λ (l : List ℕ). getD l p 0) (codes-marks (c .codes) (c .classes) (a .even)), column (λ m. m .class) ∙ ap (λ (l : List ℕ). getD l p 0) (classes-marks (c .codes) (c .classes) (a .even)))
+
+-- ---- where classes do not fall
+-- as many marks are skipped as are of smaller classes
+none-beneath : (c k : ℕ) (l : List Mark) → c ≤ k → Least k l → beneath c l ≡ 0
+none-beneath c k [] h p = refl
+none-beneath c k (m ∷ l) h p = rw (le-ltb (m .class) c (omega (arith, p .0))) (none-beneath c k l h (p .1))
+
+skipped-beneath : (c : ℕ) (l : List Mark) → Rising l → length (skipped c l) ≡ beneath c l
+unfolding smaller
+skipped-beneath c [] r = refl
+skipped-beneath c (m ∷ l) r = go (ltb (m .class) c) refl (skipped-beneath c l (r .1))
+  where
+    go : (t : Bool) → ltb (m .class) c ≡ t → length (skipped c l) ≡ beneath c l → length (skipped c (m ∷ l)) ≡ beneath c (m ∷ l)
+    go true e q = rw e (ap suc q)
+    go false e q = rw e (sym (none-beneath c (m .class) l (ltb-false (m .class) c e) (r .0)))
+
+-- the block of a class is beneath a larger one
+lead-beneath : (c d : ℕ) → c < d → (l : List Mark) → beneath d l ≡ length (lead c l) + beneath d (without c l)
+lead-beneath c d h [] = refl
+lead-beneath c d h (m ∷ l) = go (ofClass c m) (isModifier m) refl refl (lead-beneath c d h l)
+  where
+    go :
+        (t u : Bool) → ofClass c m ≡ t → isModifier m ≡ u → beneath d l ≡ length (lead c l) + beneath d (without c l)
+        → beneath d (m ∷ l) ≡ length (lead c (m ∷ l)) + beneath d (without c (m ∷ l))
+    go true true e f q =
+        let below : m .class < d = omega (arith, eqb-true (m .class) c e) in
+        simp (e, f, lt-ltb (m .class) d below) (omega (arith, q))
+    go true false e f q = simp (e, f) (omega arith)
+    go false u e f q = simp e (counted (ltb (m .class) d))
+      where
+        counted :
+            (t : Bool)
+            → length (cond t (m ∷ those (λ n. ltb (n .class) d) l) (those (λ n. ltb (n .class) d) l))
+            ≡ length (lead c l) + length (cond t (m ∷ those (λ n. ltb (n .class) d) (without c l)) (those (λ n. ltb (n .class) d) (without c l)))
+        counted true = omega (arith, q)
+        counted false = q
+
+merged-spanned : (start : ℕ) (a x : List Mark) → merged start a x ≡ spanned start (start + length a) x
+merged-spanned start a [] = refl
+merged-spanned start a (m ∷ x) =
+    let e : start + (length a + length (m ∷ x)) ≡ start + length a + length (m ∷ x) = omega arith in
+    ap (λ (n : ℕ). Over start n ∷ []) e
+
+pub ranges-of-each :
+    (start : ℕ) (l : List Mark) → Rising l
+    → ranges start reorderClasses l ≡ spanned start (start + beneath 220 l) (lead 220 l) ++ spanned (start + length (lead 220 l)) (start + beneath 230 l) (lead 230 l)
+unfolding ranges
+ranges-of-each start l r =
+    let p = pass-step 220 l r in
+    let q = pass-step 230 (without 220 l) (rising-without 220 l r) in
+    let other = lead-without 230 220 (λ z. omega arith) l in
+    let first : merged start (skipped 220 l) (block 220 l) ≡ spanned start (start + beneath 220 l) (lead 220 l) =
+    merged-spanned start (skipped 220 l) (block 220 l) ∙ ap₂ (λ (n : ℕ) (x : List Mark). spanned start (start + n) x) (skipped-beneath 220 l r) (p .0)
+    in
+    let begins : start + length (lead 220 l) + length (skipped 230 (without 220 l)) ≡ start + beneath 230 l =
+    omega (arith, skipped-beneath 230 (without 220 l) (rising-without 220 l r), lead-beneath 220 230 (omega arith) l)
+    in
+    let second : merged (start + length (lead 220 l)) (skipped 230 (without 220 l)) (block 230 (without 220 l)) ≡ spanned (start + length (lead 220 l)) (start + beneath 230 l) (lead 230 l) =
+    merged-spanned (start + length (lead 220 l)) (skipped 230 (without 220 l)) (block 230 (without 220 l))
+    ∙ ap₂ (λ (n : ℕ) (x : List Mark). spanned (start + length (lead 220 l)) n x) begins (q .0 ∙ other)
+    in
+    ap₂ (λ (x y : List Span). x ++ y) first
+    (append-nil (merged (start + length (block 220 l)) (skipped 230 (others 220 l)) (block 230 (others 220 l)))
+    ∙ ap₂ (λ (x y : List Mark). merged (start + length x) (skipped 230 y) (block 230 y)) (p .0) (p .1)
+    ∙ second)

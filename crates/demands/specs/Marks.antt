@@ -1,20 +1,20 @@
 -- What reordering the modifier marks of a part of a line promises, of every request, by the call's statement (`Reordering` of crate marks): `OneAnswer`, `RefusedStays`, `SmallestNumber`;
 -- `Outside` that a column stays as it was but for the part, `OnlyThePart`; `ByUtr53`, `Arranged` what the part becomes where its classes do not fall; `withCode`, `NothingLost`, `OthersStay` what holds whatever its classes are;
--- `Within`, `AllWithin`, `AtMostTwo` where the ranges lie; `Covered`, `ChangesMerged` that they miss nothing.
+-- `Within`, `AllWithin`, `AtMostTwo` where the ranges lie; `beneath`, `spanned`, `RangeOfEach` which they are where classes do not fall; `Covered`, `ChangesMerged` that they miss nothing.
 -- Assumes nothing.
 use mathlib.Core.Path.{_≡_}
 use mathlib.Core.Bool.{true, not}
-use mathlib.Core.List.{List, [], _∷_}
+use mathlib.Core.List.{List, [], _∷_, _++_}
 use mathlib.Core.Logic.{_⊎_}
-use Prim.Native.Nat.{ℕ, _<_, _≤_}
-use lib.Dec.{eqb}
+use Prim.Native.Nat.{ℕ, _+_, _<_, _≤_}
+use lib.Dec.{eqb, ltb}
 use lib.ListN.{length, getD, take, drop}
 use Rattle.laws.specs.Rows.{Has}
 use Rattle.blocks.specs.Marks.{Mark, codesOf}
 use Rattle.marks.specs.declared.Answer.{Answer}
 use Rattle.marks.specs.Passes.{Span, Over}
 use Rattle.marks.specs.Reordered.{Request, Columns, part, reorderRows, numberSaid, rangesSaid, Reordering}
-use Rattle.marks.specs.Utr53.{Rising, those, isModifier, utr53, arranged}
+use Rattle.marks.specs.Utr53.{Rising, those, isModifier, lead, utr53, arranged}
 
 -- Any two answers that the statement allows are equal, and so are the columns that they leave.
 abbrev pub OneAnswer : Type 0
@@ -86,6 +86,24 @@ AllWithin q (s ∷ more) = Within q s × AllWithin q more
 -- The answer has at most two ranges, each within the part.
 abbrev pub AtMostTwo : Type 0
 AtMostTwo = (q : Request) (c : Columns) (r : Answer) (d : Columns) → Reordering q c r d → (length (rangesSaid r) ≤ 2) × AllWithin q (rangesSaid r)
+
+-- how many marks are of a class below c: where the sequence of that class begins, if classes do not fall
+abbrev pub beneath : ℕ → List Mark → ℕ
+beneath c l = length (those (λ m. ltb (m .class) c) l)
+
+-- the range of a block that stands at a place now and began at another before; an empty one has none
+abbrev pub spanned : ℕ → ℕ → List Mark → List Span
+spanned now before [] = []
+spanned now before (m ∷ ms) = Over now (before + length (m ∷ ms)) ∷ []
+
+-- Where the classes of the part do not fall, each block that is not empty has one range: from where it stands now to where it ended before.
+abbrev pub RangeOfEach : Type 0
+RangeOfEach =
+    (q : Request) (c : Columns) (r : Answer) (d : Columns) → Reordering q c r d → numberSaid r ≡ 0
+    → Rising (part q c)
+    → rangesSaid r
+    ≡ spanned (q .start) (q .start + beneath 220 (part q c)) (lead 220 (part q c))
+    ++ spanned (q .start + length (lead 220 (part q c))) (q .start + beneath 230 (part q c)) (lead 230 (part q c))
 
 -- a place lies in one of the ranges
 abbrev pub Covered : ℕ → List Span → Type 0

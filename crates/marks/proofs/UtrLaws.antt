@@ -146,7 +146,7 @@ least-without k c (m ∷ l) p = go (ofClass c m) (isModifier m) (least-without k
     go true false q = p
     go false u q = (p .0, q)
 
-rising-without : (c : ℕ) (l : List Mark) → Rising l → Rising (without c l)
+pub rising-without : (c : ℕ) (l : List Mark) → Rising l → Rising (without c l)
 rising-without c [] r = tt
 rising-without c (m ∷ l) r = go (ofClass c m) (isModifier m) (rising-without c l (r .1))
   where

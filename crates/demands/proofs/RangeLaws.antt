@@ -10,14 +10,15 @@ use borrow.Author.Tests.{lt-ltb, le-ltb, ltb-true, ltb-false, eqb-true}
 use lib.Dec.{ltb}
 use lib.ListN.{length, getD, take, drop, length-append, length-map}
 use lib.Seq.{getD-append-add, length-take-le}
+use Rattle.laws.specs.Lists.{those, behind}
 use Rattle.laws.proofs.PartLaws.{three-parts, same-behind, same-before}
 use Rattle.blocks.specs.Marks.{Mark, mark}
 use Rattle.blocks.proofs.MarkLaws.{length-marks, codes-marks, classes-marks, column-at}
-use Rattle.marks.specs.Passes.{Span, Over, merged, skipped, block, others, behind, smaller, moves, reorderClasses, newClass, passes, ranges, renumber, numbered}
+use Rattle.marks.specs.Passes.{Span, Over, merged, skipped, block, others, smaller, moves, reorderClasses, newClass, passes, ranges, renumber, numbered}
 use Rattle.marks.specs.Reordered.{Request, Columns, line, part, newPart, newLine, reordered, rangesOf}
 use Rattle.marks.proofs.PassLaws.{pass-parts, length-passes}
 use Rattle.marks.proofs.ReorderedLaws.{Allowed}
-use Rattle.marks.specs.Utr53.{Least, Rising, those, ofClass, isModifier, lead, without}
+use Rattle.marks.specs.Utr53.{Least, Rising, ofClass, isModifier, lead, without}
 use Rattle.marks.proofs.UtrLaws.{lead-without, pass-step, rising-without}
 use Rattle.demands.specs.Marks.{AllWithin, beneath, spanned, Covered}
 

@@ -9,12 +9,13 @@ use mathlib.Core.Logic.{_⊎_}
 use Prim.Native.Nat.{ℕ, _+_, _<_, _≤_}
 use lib.Dec.{eqb, ltb}
 use lib.ListN.{length, getD, take, drop}
+use Rattle.laws.specs.Lists.{those}
 use Rattle.laws.specs.Rows.{Has}
 use Rattle.blocks.specs.Marks.{Mark, codesOf}
 use Rattle.marks.specs.declared.Answer.{Answer}
 use Rattle.marks.specs.Passes.{Span, Over}
 use Rattle.marks.specs.Reordered.{Request, Columns, part, reorderRows, numberSaid, rangesSaid, Reordering}
-use Rattle.marks.specs.Utr53.{Rising, those, isModifier, lead, utr53, arranged}
+use Rattle.marks.specs.Utr53.{Rising, isModifier, lead, utr53, arranged}
 
 -- Any two answers that the statement allows are equal, and so are the columns that they leave.
 abbrev pub OneAnswer : Type 0

@@ -7,12 +7,13 @@ use Prim.Native.Nat.{ℕ, _+_, _≤_, _<_}
 use native.Mathlib.Omega.{arith}
 use lib.ListN.{length, getD, take, drop, set, length-set, take-append-drop, drop-of-length-le}
 use lib.Seq.{drop-set-lt}
+use Rattle.laws.specs.Lists.{front, behind}
+use Rattle.laws.proofs.ListLaws.{front-more, front-fails, front-ends}
 use Rattle.laws.proofs.LoopLaws.{drop-next, fill-next}
 use Rattle.blocks.specs.Marks.{Mark, mark, marks}
 use Rattle.blocks.proofs.MarkLaws.{nothing, length-marks, marks-at}
 use Rattle.blocks.proofs.BlockLaws.{marks-class}
-use Rattle.marks.specs.Passes.{front, behind, moves, renumber, numbered}
-use Rattle.marks.proofs.PassLaws.{front-more, front-fails, front-ends}
+use Rattle.marks.specs.Passes.{moves, renumber, numbered}
 
 -- what is still to become of marks from j on, where the block of a class gets the number k
 abbrev ahead : ℕ → ℕ → List Mark → List Mark

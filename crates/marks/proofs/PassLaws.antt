@@ -1,5 +1,5 @@
 -- What a pass does. Its three parts (`pass-parts`); what it gives once it has skipped a and stands at b (`passes-is`, `ranges-is`); that marks which are all smaller stay (`passes-low`, `ranges-low`); as
--- many marks as before (`length-passes`); the range of a block (`merged-some`); and the end of a block, mark by mark (`front-more`, `front-fails`, `front-ends`, `front-fits`).
+-- many marks as before (`length-passes`); and the range of a block (`merged-some`).
 -- Assumes nothing.
 use mathlib.Core.Path.{_≡_, refl, sym, ap, ap₂, _∙_}
 use mathlib.Core.Bool.{Bool, true, false, cond}
@@ -7,10 +7,11 @@ use mathlib.Core.List.{List, [], _∷_, _++_, append-nil}
 use Prim.Native.Nat.{ℕ, _+_, _≤_, _<_}
 use native.Mathlib.Omega.{arith}
 use borrow.Author.Tests.{lt-ltb, le-ltb}
-use lib.ListN.{length, getD, drop, drop-of-length-le, length-append, length-drop, length-map}
-use Rattle.laws.proofs.LoopLaws.{drop-next}
+use lib.ListN.{length, length-append, length-map}
+use Rattle.laws.specs.Lists.{front, behind}
+use Rattle.laws.proofs.ListLaws.{front-behind}
 use Rattle.blocks.specs.Marks.{Mark}
-use Rattle.marks.specs.Passes.{front, behind, smaller, moves, skipped, block, others, passes, Over, merged, ranges, renumber, numbered}
+use Rattle.marks.specs.Passes.{smaller, moves, skipped, block, others, passes, Over, merged, ranges, renumber, numbered}
 
 -- every mark is of a class below c
 abbrev pub Below : ℕ → List Mark → Type 0
@@ -35,38 +36,9 @@ abbrev pub Stops : ℕ → List Mark → Type 0
 Stops c [] = Unit
 Stops c (m ∷ ms) = c ≤ m .class
 
--- ---- up to the first mark that fails a test, and from it on
-pub front-behind : (p : Mark → Bool) (l : List Mark) → front p l ++ behind p l ≡ l
-front-behind p [] = refl
-front-behind p (m ∷ ms) = go (p m) (front-behind p ms)
-  where
-    go : (t : Bool) → front p ms ++ behind p ms ≡ ms → cond t (m ∷ front p ms) [] ++ cond t (behind p ms) (m ∷ ms) ≡ m ∷ ms
-    go true e = ap (λ (l : List Mark). m ∷ l) e
-    go false e = refl
-
 -- what a pass skips, its block, and what is behind that
 pub pass-parts : (c : ℕ) (l : List Mark) → skipped c l ++ (block c l ++ behind (moves c) (behind (smaller c) l)) ≡ l
 pass-parts c l = rw (front-behind (moves c) (behind (smaller c) l)) (front-behind (smaller c) l)
-
--- the mark at i passes the test
-pub front-more : (p : Mark → Bool) (l : List Mark) (i : ℕ) (d : Mark) → i < length l → p (getD l i d) ≡ true → i + length (front p (drop i l)) ≡ i + 1 + length (front p (drop (i + 1) l))
-front-more p l i d h t = rw (drop-next l i d h, t) (omega arith)
-
--- it fails it
-pub front-fails : (p : Mark → Bool) (l : List Mark) (i : ℕ) (d : Mark) → i < length l → p (getD l i d) ≡ false → i + length (front p (drop i l)) ≡ i
-front-fails p l i d h t = rw (drop-next l i d h, t) (omega arith)
-
--- there is none
-pub front-ends : (p : Mark → Bool) (l : List Mark) (i : ℕ) → length l ≤ i → i + length (front p (drop i l)) ≡ i
-front-ends p l i h = rw (drop-of-length-le l {i = i} h) (omega arith)
-
--- it ends within the list
-pub front-fits : (p : Mark → Bool) (l : List Mark) (i : ℕ) → i ≤ length l → i + length (front p (drop i l)) ≤ length l
-front-fits p l i h =
-    let parts : length (front p (drop i l)) + length (behind p (drop i l)) ≡ length (drop i l) =
-    sym (length-append (front p (drop i l)) (behind p (drop i l))) ∙ ap length (front-behind p (drop i l))
-    in
-    omega (arith, parts, length-drop i l)
 
 front-low : (c : ℕ) (a b : List Mark) → Below c a → Stops c b → front (smaller c) (a ++ b) ≡ a
 unfolding smaller

@@ -10,11 +10,13 @@ use native.Mathlib.Omega.{arith}
 use borrow.Author.Tests.{ne-eqb, le-ltb, eqb-true, eqb-false, ltb-true, ltb-false}
 use lib.Dec.{ltb}
 use lib.ListN.{length, length-append, length-map}
+use Rattle.laws.specs.Lists.{those, front, behind}
+use Rattle.laws.proofs.ListLaws.{those-append}
 use Rattle.blocks.specs.Marks.{Mark, codesOf}
 use Rattle.marks.specs.Modifiers.{modifier}
-use Rattle.marks.specs.Passes.{front, behind, smaller, moves, skipped, block, others, reorderClasses, newClass, passes, renumber, numbered}
+use Rattle.marks.specs.Passes.{smaller, moves, skipped, block, others, reorderClasses, newClass, passes, renumber, numbered}
 use Rattle.marks.proofs.PassLaws.{pass-parts}
-use Rattle.marks.specs.Utr53.{Least, Rising, those, ofClass, isModifier, lead, without, toBeginning, utr53, arranged}
+use Rattle.marks.specs.Utr53.{Least, Rising, ofClass, isModifier, lead, without, toBeginning, utr53, arranged}
 
 -- ---- the steps of two classes, on any marks
 -- all marks are of the class d
@@ -181,16 +183,6 @@ pub passes-utr53 : (low high : ℕ) (l : List Mark) → Rising l → codesOf (pa
 passes-utr53 low high l r = ap codesOf (passes-arranged low high l r) ∙ codes-arranged low high l
 
 -- ---- any marks: nothing is lost or doubled
-those-append : (p : Mark → Bool) (x y : List Mark) → those p (x ++ y) ≡ those p x ++ those p y
-those-append p [] y = refl
-those-append p (m ∷ x) y = go (p m) (those-append p x y)
-  where
-    go :
-        (t : Bool) → those p (x ++ y) ≡ those p x ++ those p y
-        → cond t (m ∷ those p (x ++ y)) (those p (x ++ y)) ≡ cond t (m ∷ those p x) (those p x) ++ those p y
-    go true q = ap (λ (z : List Mark). m ∷ z) q
-    go false q = q
-
 -- a test of codes, as one of marks
 abbrev pub byCode : (ℕ → Bool) → Mark → Bool
 byCode p m = p (m .code)

@@ -9,6 +9,8 @@ use borrow.Table.Elements.{same-len}
 use lib.ListN.{length, getD, take, drop, length-append, length-map, drop-of-length-le}
 use lib.Seq.{slice, slice-empty, length-slice, take-suc, drop-append-le, length-take-le, take-at, drop-at}
 use native.Mathlib.Numerals.{add-one}
+use Rattle.laws.specs.Lists.{front, behind}
+use Rattle.laws.proofs.ListLaws.{front-fits}
 use Rattle.laws.proofs.LoopLaws.{drop-next}
 use Rattle.laws.proofs.PartLaws.{take-parts, slice-parts, drop-parts, drop-parted}
 use Rattle.blocks.proofs.MarkLaws.{nothing, length-marks, class-at, marks-take}
@@ -16,9 +18,9 @@ use Rattle.blocks.proofs.BlockLaws.{marks-first}
 use Rattle.blocks.specs.Marks.{Mark, marks, brought}
 use Rattle.marks.specs.declared.Merged.{Merged}
 use Rattle.marks.specs.declared.Merged.the-variants.{Nothing}
-use Rattle.marks.specs.Passes.{front, behind, moves, reorderClasses, newClass, passes, Span, Over, merged, ranges, renumber, numbered}
+use Rattle.marks.specs.Passes.{moves, reorderClasses, newClass, passes, Span, Over, merged, ranges, renumber, numbered}
 use Rattle.marks.specs.Reordered.{listed}
-use Rattle.marks.proofs.PassLaws.{Below, below-raise, below-append, Low, Stops, front-fits, passes-is, ranges-is, passes-low, ranges-low, merged-some}
+use Rattle.marks.proofs.PassLaws.{Below, below-raise, below-append, Low, Stops, passes-is, ranges-is, passes-low, ranges-low, merged-some}
 
 -- the class of a pass
 abbrev pub classAt : ℕ → ℕ

@@ -1,14 +1,9 @@
--- Modifier combining marks: `member` that a list has a number; `modifiers` the source's list; `modifier` that a code stands in it.
+-- Modifier combining marks: `modifiers` the source's list; `modifier` that a code stands in it.
 -- Assumes nothing.
-use mathlib.Core.Bool.{Bool, false, _||_}
+use mathlib.Core.Bool.{Bool}
 use mathlib.Core.List.{List, [], _∷_}
 use Prim.Native.Nat.{ℕ}
-use lib.Dec.{eqb}
-
--- a list has the number x
-abbrev pub member : ℕ → List ℕ → Bool
-member x [] = false
-member x (y ∷ ys) = eqb y x || member x ys
+use Rattle.laws.specs.Lists.{member}
 
 -- "the source's list of 14 codes"
 abbrev pub modifiers : List ℕ

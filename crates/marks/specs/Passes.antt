@@ -1,5 +1,4 @@
--- Reordering of modifier marks over a part of a line (document 01, "Marks"; the passes of the source), as a list of marks: `front`, `behind` the marks up to the first that
--- fails a test, and those from it on; `smaller`, `moves` the tests of a pass; `skipped`, `block`, `others` what a pass leaves where it is, what it moves, and all that it does not move;
+-- Reordering of modifier marks over a part of a line (document 01, "Marks"; the passes of the source), as a list of marks: `smaller`, `moves` the tests of a pass; `skipped`, `block`, `others` what a pass leaves where it is, what it moves, and all that it does not move;
 -- `reorderClasses` the classes of the passes; `newClass`, `renumber`, `numbered` the number that a block gets; `passes` the marks after the passes;
 -- `Span`, `merged`, `ranges` the ranges given to `merge_clusters`.
 -- Assumes nothing.
@@ -8,18 +7,9 @@ use mathlib.Core.List.{List, [], _∷_, _++_, map}
 use Prim.Native.Nat.{ℕ, _+_}
 use lib.Dec.{eqb, ltb}
 use lib.ListN.{length}
+use Rattle.laws.specs.Lists.{front, behind}
 use Rattle.blocks.specs.Marks.{Mark, mark}
 use Rattle.marks.specs.Modifiers.{modifier}
-
--- the marks before the first that fails the test: all, if none fails
-abbrev pub front : (Mark → Bool) → List Mark → List Mark
-front p [] = []
-front p (m ∷ ms) = cond (p m) (m ∷ front p ms) []
-
--- the first that fails it, and all behind it
-abbrev pub behind : (Mark → Bool) → List Mark → List Mark
-behind p [] = []
-behind p (m ∷ ms) = cond (p m) (behind p ms) (m ∷ ms)
 
 -- "A pass skips smaller classes"
 unfoldable pub smaller : ℕ → Mark → Bool

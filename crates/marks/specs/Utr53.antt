@@ -1,4 +1,4 @@
--- What UTR 53 says of modifier combining marks (MCM), for a sequence of marks in canonical order: `Least`, `Rising` that order; `those` marks by a test; `ofClass`, `isModifier` tests of a mark;
+-- What UTR 53 says of modifier combining marks (MCM), for a sequence of marks in canonical order: `Least`, `Rising` that order; `ofClass`, `isModifier` tests of a mark;
 -- `lead`, `without` the MCM at the beginning of the sequence of a class, and all others; `toBeginning` a step of the algorithm; `utr53` its two steps for these marks; `arranged` what they come
 -- to, with the classes renumbered. The step before these, which moves shadda, is not done here. That document
 -- speaks of marks of classes above 0; nothing here asks for it.
@@ -7,9 +7,10 @@ use mathlib.Core.Bool.{Bool, cond}
 use mathlib.Core.List.{List, [], _∷_, _++_}
 use Prim.Native.Nat.{ℕ, _≤_}
 use lib.Dec.{eqb}
+use Rattle.laws.specs.Lists.{those, front}
 use Rattle.blocks.specs.Marks.{Mark}
 use Rattle.marks.specs.Modifiers.{modifier}
-use Rattle.marks.specs.Passes.{front, numbered}
+use Rattle.marks.specs.Passes.{numbered}
 
 -- no class is below c
 abbrev pub Least : ℕ → List Mark → Type 0
@@ -20,11 +21,6 @@ Least c (m ∷ ms) = (c ≤ m .class) × Least c ms
 abbrev pub Rising : List Mark → Type 0
 Rising [] = Unit
 Rising (m ∷ ms) = Least (m .class) ms × Rising ms
-
--- the marks that pass a test, in their order
-abbrev pub those : (Mark → Bool) → List Mark → List Mark
-those p [] = []
-those p (m ∷ ms) = cond (p m) (m ∷ those p ms) (those p ms)
 
 abbrev pub ofClass : ℕ → Mark → Bool
 ofClass class m = eqb (m .class) class

@@ -6,8 +6,9 @@ use Prim.Native.Nat.{_-_, _+_}
 use borrow.Author.Needs.{needs}
 use lib.Dec.{eqb}
 use lib.ListN.{getD, drop, drop-of-length-le}
+use Rattle.laws.specs.Lists.{member}
 use Rattle.laws.proofs.LoopLaws.{drop-next, seen-next, seen-ends}
-use Rattle.marks.specs.Modifiers.{member, modifiers, modifier}
+use Rattle.marks.specs.Modifiers.{modifiers, modifier}
 use Rattle.marks.proofs.is_modifier.Statement.{statement}
 use Rattle.marks.proofs.is_modifier.Tie as tie
 

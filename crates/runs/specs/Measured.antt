@@ -1,0 +1,70 @@
+-- What measuring answers, of the records from a place on in the order of the work: `sumsOf` a run's sums; `wordSum` a word's; `measuredOf` a run with the word before it.
+-- Assumes nothing.
+use mathlib.Core.Path.{_≡_}
+use mathlib.Core.Bool.{Bool, false}
+use mathlib.Core.List.{List, map}
+use Prim.Native.Nat.{ℕ, _+_}
+use lib.ListN.{length, drop}
+use lib.IntN.{ℤ, pos}
+use Rattle.laws.specs.Lists.{front}
+use Rattle.letters.specs.Actions.{fixed, repeating}
+use Rattle.runs.specs.Records.{Record, Columns}
+use Rattle.runs.specs.Runs.{inWord, run, plain, sum, widthOf, tiles, copiesOf, overlapOf, startOf}
+use Rattle.runs.specs.Stretched.{work, recordsAdded}
+use Rattle.runs.specs.declared.Sums.{Sums}
+use Rattle.runs.specs.declared.Measured.{Measured}
+
+-- the columns that are measured have n numbers each
+pub record Even (n : ℕ) (widths : List ℤ) (categories ignorables : List ℕ) (advances : List ℤ) : Type 0 where
+  pub evenWidths : length widths ≡ n
+  pub evenCategories : length categories ≡ n
+  pub evenIgnorables : length ignorables ≡ n
+  pub evenAdvances : length advances ≡ n
+
+-- a line has them
+pub record Lent (c : Columns) (widths : List ℤ) (categories ignorables actions : List ℕ) (advances : List ℤ) : Type 0 where
+  pub hasWidths : c .widths ≡ widths
+  pub hasCategories : c .categories ≡ categories
+  pub hasIgnorables : c .ignorables ≡ ignorables
+  pub hasActions : c .actions ≡ actions
+  pub hasAdvances : c .advances ≡ advances
+
+-- the run that begins at a place, whose records and those behind it are l: its widths, its tiles, and the place past it
+unfoldable pub sumsOf : ℕ → List Record → Sums
+sumsOf from l = record { fixed = widthOf fixed l; repeating = widthOf repeating l; tiles = tiles l; past = from + length (run l) }
+
+-- the advances together of the word that begins at a place
+unfoldable pub wordSum : List Record → ℤ
+wordSum l = sum (pos 0) (map (λ (r : Record). r .advance) (front inWord l))
+
+-- the run that begins at a place, with the word before it
+unfoldable pub measuredOf : ℕ → List Record → Measured
+measuredOf from l = record {
+  past = from + length (run l);
+  tiles = tiles l;
+  copies = copiesOf l;
+  overlap = overlapOf l;
+  start = startOf l;
+}
+
+-- ---- what the calls answer that are lent some of a line's columns: of any line that has these
+-- where the next run begins, or the line ends
+abbrev pub NextRun : Bool → ℕ → List ℕ → ℕ → Type 0
+NextRun rtl from actions r = (c : Columns) → c .actions ≡ actions → r ≡ from + length (plain (drop from (work rtl c)))
+
+-- the run that begins at a place; the word that does; and both
+abbrev pub SumsAt : Bool → ℕ → List ℤ → List ℕ → Sums → Type 0
+SumsAt rtl from widths actions r = (c : Columns) → c .widths ≡ widths → c .actions ≡ actions → r ≡ sumsOf from (drop from (work rtl c))
+
+abbrev pub WordAt : Bool → ℕ → List ℕ → List ℕ → List ℕ → List ℤ → ℤ → Type 0
+WordAt rtl from categories ignorables actions advances r =
+    (c : Columns) → Lent c (c .widths) categories ignorables actions advances → r ≡ wordSum (drop from (work rtl c))
+
+abbrev pub MeasuredAt : Bool → ℕ → List ℤ → List ℕ → List ℕ → List ℕ → List ℤ → Measured → Type 0
+MeasuredAt rtl from widths categories ignorables actions advances r =
+    (c : Columns) → Lent c widths categories ignorables actions advances → r ≡ measuredOf from (drop from (work rtl c))
+
+-- how many records stretching adds
+abbrev pub Added : Bool → List ℤ → List ℕ → List ℕ → List ℕ → List ℤ → ℕ → Type 0
+Added rtl widths categories ignorables actions advances r =
+    (c : Columns) → Lent c widths categories ignorables actions advances → r ≡ recordsAdded false (work rtl c)

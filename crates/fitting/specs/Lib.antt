@@ -1,0 +1,4 @@
+-- What the contracts of `fitting` cite.
+-- Assumes nothing.
+pub mod Saturating
+pub mod Fit

@@ -42,6 +42,10 @@ overlap room w tiles = cond (squeezed room w tiles) (quotZ (excess room w tiles)
 unfoldable pub start : ℤ → ℤ → ℕ → ℤ
 start room w tiles = quotZ (cond (squeezed room w tiles) (pos 0) room) (pos 2)
 
+-- tiles that are not squeezed: so many copies, no overlap, from half the room
+unfoldable pub looseFit : ℤ → ℕ → Fit
+looseFit room n = record { copies = n; overlap = pos 0; start = quotZ room (pos 2) }
+
 unfoldable pub fitOf : ℤ → ℤ → ℕ → Fit
 fitOf room w tiles =
     record { copies = copies room w tiles; overlap = overlap room w tiles; start = start room w tiles }

@@ -81,7 +81,7 @@ module _ (room w : ℤ) (t : ℕ) where
 -- without tiles no copy is added
 none-added : (room w : ℤ) → added room w 0 ≡ false
 unfolding added
-none-added room w = simp and-false
+none-added room w = and-false (ltZ (w *ℤ pos (whole room w + 1)) room)
 
 -- ---- w is not above 0, and room exceeds it
 whole-zero : (room w : ℤ) → count w ≡ 0 → whole room w ≡ 0

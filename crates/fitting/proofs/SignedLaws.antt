@@ -31,20 +31,21 @@ ret f e = ap (λ (z : ℤ). toZ w32 (ofZ w32 z)) e ∙ back f
 pub widen : {z : ℤ} → SFits w32 z → SFits w64 z
 widen {z} f = let h : mag z < 2147483648 = f .sfits in record { sfits = omega arith }
 
--- ---- the nearest number of 32 bits, by the code's two tests
-pub clamp-hi : (s : ℤ) → ltZ (pos 2147483647) s ≡ true → pos 2147483647 ≡ clamped s
+-- ---- the nearest number of 32 bits, by the code's two tests: past the largest number or any above it, and so below
+pub clamp-hi : (s : ℤ) (most : ℕ) → 2147483647 ≤ most → ltZ (pos most) s ≡ true → pos 2147483647 ≡ clamped s
 unfolding clamped
-clamp-hi (pos n) t = let h = ltb-true 2147483647 n t in ap pos (omega arith)
-clamp-hi (negsuc n) t = absurd (false≢true t)
+clamp-hi (pos n) most l t = let h = ltb-true most n t in ap pos (omega arith)
+clamp-hi (negsuc n) most l t = absurd (false≢true t)
 
-pub clamp-lo : (s : ℤ) → ltZ s (negsuc 2147483647) ≡ true → negsuc 2147483647 ≡ clamped s
+pub clamp-lo : (s : ℤ) (most : ℕ) → 2147483647 ≤ most → ltZ s (negsuc most) ≡ true → negsuc 2147483647 ≡ clamped s
 unfolding clamped
-clamp-lo (pos n) t = absurd (false≢true t)
-clamp-lo (negsuc n) t = let h = ltb-true 2147483647 n t in ap negsuc (omega arith)
+clamp-lo (pos n) most l t = absurd (false≢true t)
+clamp-lo (negsuc n) most l t = let h = ltb-true most n t in ap negsuc (omega arith)
 
-pub clamp-in : (s : ℤ) → ltZ (pos 2147483647) s ≡ false → ltZ s (negsuc 2147483647) ≡ false → SFits w32 s
-clamp-in (pos n) t u = let h = ltb-false 2147483647 n t in record { sfits = omega arith }
-clamp-in (negsuc n) t u = let h = ltb-false 2147483647 n u in record { sfits = omega arith }
+-- neither, and each limit is one of 32 bits
+pub clamp-in : (s : ℤ) (most least : ℕ) → most < 2147483648 → least < 2147483648 → ltZ (pos most) s ≡ false → ltZ s (negsuc least) ≡ false → SFits w32 s
+clamp-in (pos n) most least l m t u = let h = ltb-false most n t in record { sfits = omega arith }
+clamp-in (negsuc n) most least l m t u = let h = ltb-false least n u in record { sfits = omega arith }
 
 -- a number that fits is its own nearest
 pub clamp-id : {s : ℤ} → SFits w32 s → clamped s ≡ s
@@ -93,11 +94,11 @@ sub-fits {a} {b} f g =
 
 pub sat-add-fits : (a b : ℤ) → SFits w32 (satAdd a b)
 unfolding satAdd
-sat-add-fits a b = clamp-fits (a +ℤ b)
+sat-add-fits a b = clamp-fits _
 
 pub sat-sub-fits : (a b : ℤ) → SFits w32 (satSub a b)
 unfolding satSub
-sat-sub-fits a b = clamp-fits (a -ℤ b)
+sat-sub-fits a b = clamp-fits _
 
 -- ---- a number that is widened through locals: it fits, and is what it was
 pub wide-fits : {z : ℤ} → SFits w32 z → SFits w64 (toZ w32 (ofZ w32 z))

@@ -1,0 +1,82 @@
+-- What is known of the call: an answer is known by its number and by what it says was recorded (`same-answer`); two that the statement allows are equal, and leave the same
+-- (`one-answer`); a request that is not refused (`Allowed`, `allowed`); what recording gives with a mask and without one (`recorded-masked`, `recorded-unmasked`).
+-- Assumes nothing.
+use mathlib.Core.Path.{_≡_, refl, sym, ap, ap₂, _∙_}
+use mathlib.Core.Bool.{Bool, false, cond, not, _||_}
+use mathlib.Core.List.{List, [], _∷_}
+use Prim.Native.Nat.{ℕ, _≤_}
+use borrow.Author.Tests.{not-false, eqb-true, ltb-false, eq-eqb, ne-eqb}
+use lib.Dec.{eqb, ltb}
+use lib.ListN.{length}
+use Rattle.laws.specs.Rows.{Given}
+use Rattle.laws.proofs.RowLaws.{first-none}
+use Rattle.laws.proofs.TestLaws.{neither}
+use Rattle.refusals.specs.Columns.{lineLimit}
+use Rattle.refusals.specs.declared.Verdict.{Verdict}
+use Rattle.refusals.specs.declared.Verdict.the-variants.{Accepted, Refused}
+use Rattle.refusals.specs.Numbers.{said}
+use Rattle.refusals.proofs.VerdictLaws.{same-said}
+use Rattle.refusals.proofs.LeftLaws.{alike}
+use Rattle.recording.specs.declared.Answer.{Answer}
+use Rattle.recording.specs.declared.Answer.the-variants.{Recorded}
+use Rattle.recording.specs.Recorded.{Request, Outcome, outcome, yes, some, newActions, recorded, recordRefusal, recordAfter, numberSaid, recordedSaid, Recording}
+
+-- ---- an answer is known by what it says
+verdictOf : Answer → Verdict
+verdictOf (Recorded any) = Accepted
+verdictOf (Answer.Refused k) = Refused k
+
+answerOf : Bool → Verdict → Answer
+answerOf any Accepted = Recorded any
+answerOf any (Refused k) = Answer.Refused k
+
+said-verdict : (r : Answer) → said (verdictOf r) ≡ numberSaid r
+unfolding verdictOf
+said-verdict (Recorded any) = refl
+said-verdict (Answer.Refused k) = refl
+
+read-back : (r : Answer) → answerOf (recordedSaid r) (verdictOf r) ≡ r
+unfolding verdictOf answerOf
+read-back (Recorded any) = refl
+read-back (Answer.Refused k) = refl
+
+pub same-answer : (r u : Answer) → numberSaid r ≡ numberSaid u → recordedSaid r ≡ recordedSaid u → r ≡ u
+same-answer r u n e =
+    sym (read-back r) ∙ ap₂ answerOf e (same-said (verdictOf r) (verdictOf u) (said-verdict r ∙ n ∙ sym (said-verdict u))) ∙ read-back u
+
+-- any two answers that the statement allows are equal, and leave the same actions
+pub one-answer : (q : Request) (actions : List ℕ) (r u : Answer) (left other : List ℕ) → Recording q actions r left → Recording q actions u other → (r ≡ u) × (left ≡ other)
+one-answer q actions r u left other p o =
+    let g = alike _ _ _ _ (recordAfter q actions) p o in
+    (same-answer r u (g .0) (ap (λ (x : Outcome). x .recorded) (g .1)), ap (λ (x : Outcome). x .actions) (g .1))
+
+-- ---- a request that is not refused
+-- of the rows that recording uses, none applies
+pub record Allowed (q : Request) (actions : List ℕ) : Type 0 where
+  pub even : length (q .multiplied) ≡ length (q .components)
+  pub even-actions : length (q .multiplied) ≡ length actions
+  pub few : length (q .multiplied) ≤ lineLimit
+
+pub allowed : (q : Request) (actions : List ℕ) → recordRefusal q actions ≡ 0 → Allowed q actions
+unfolding recordRefusal
+allowed q actions z =
+    let n = length (q .multiplied) in
+    let components = not (eqb n (length (q .components))) in
+    let others = not (eqb n (length actions)) in
+    let uneven-not = first-none 0 (components || others) (Given 2 (ltb lineLimit n) ∷ []) z in
+    let even = neither components others (uneven-not .0) in
+    record {
+      even = eqb-true n (length (q .components)) (not-false _ (even .0));
+      even-actions = eqb-true n (length actions) (not-false _ (even .1));
+      few = ltb-false lineLimit n (first-none 1 (ltb lineLimit n) [] (uneven-not .1) .0);
+    }
+
+-- ---- by the mask
+module _ (q : Request) (actions : List ℕ) where
+  pub recorded-unmasked : q .mask ≡ 0 → outcome false actions ≡ recorded q actions
+  recorded-unmasked z = simp (eq-eqb (q .mask) 0 z)
+
+  pub recorded-masked :
+      (q .mask ≡ 0 → ⊥) → {any : Bool} {left : List ℕ} → any ≡ some (q .multiplied) → left ≡ newActions (q .multiplied) (q .components) actions
+      → outcome any left ≡ recorded q actions
+  recorded-masked d e f = simp (ne-eqb (q .mask) 0 d) (ap₂ outcome e f)

@@ -73,10 +73,13 @@ allowed q actions z =
 
 -- ---- by the mask
 module _ (q : Request) (actions : List ℕ) where
+  abbrev by-mask : Bool → Outcome
+  by-mask none = cond (not none) (outcome (some (q .multiplied)) (newActions (q .multiplied) (q .components) actions)) (outcome false actions)
+
   pub recorded-unmasked : q .mask ≡ 0 → outcome false actions ≡ recorded q actions
-  recorded-unmasked z = simp (eq-eqb (q .mask) 0 z)
+  recorded-unmasked z = sym (ap by-mask (eq-eqb (q .mask) 0 z))
 
   pub recorded-masked :
       (q .mask ≡ 0 → ⊥) → {any : Bool} {left : List ℕ} → any ≡ some (q .multiplied) → left ≡ newActions (q .multiplied) (q .components) actions
       → outcome any left ≡ recorded q actions
-  recorded-masked d e f = simp (ne-eqb (q .mask) 0 d) (ap₂ outcome e f)
+  recorded-masked d e f = ap₂ outcome e f ∙ sym (ap by-mask (ne-eqb (q .mask) 0 d))

@@ -47,6 +47,14 @@ enum-known-verdict c = search needs
 enum-told : tie.Need-enum-told
 enum-told c = search needs
 
+-- refused
+returns-2 : tie.Need-returns-2
+returns-2 c =
+    let s = c .before .before .before .before .before .before .before in
+    let k = c .before .verdict .given .0 .0 in
+    left-refused _ (old s) (new s) _ (ap said (sym (c .before .verdict .given .1)) ∙ found (c .before .before .before)) (refused-number k)
+
+-- accepted, without a mask
 returns : tie.Need-returns
 returns c =
     let s = c .before .before .before .before .before .before .before in
@@ -55,15 +63,10 @@ returns c =
 record-all-requires : tie.Need-record-all-requires
 record-all-requires c κs = let a = given (c .before .before) in (a .even, a .even-actions)
 
-returns-2 : tie.Need-returns-2
-returns-2 c =
-    let s = c .before .before .before .before .before .before .before in
-    let k = c .before .verdict .given .0 .0 in
-    left-refused _ (old s) (new s) _ (ap said (sym (c .before .verdict .given .1)) ∙ found (c .before .before .before)) (refused-number k)
-
 same-length : tie.Need-same-length
 same-length c = search needs
 
+-- and with one
 returns-3 : tie.Need-returns-3
 returns-3 c =
     let e = c .before .before .before .before in

@@ -1,7 +1,7 @@
 -- What is known of the call: an answer is known by its number and by what it says was recorded (`same-answer`); two that the statement allows are equal, and leave the same
 -- (`one-answer`); a request that is not refused (`Allowed`, `allowed`); what recording gives with a mask and without one (`recorded-masked`, `recorded-unmasked`).
 -- Assumes nothing.
-use mathlib.Core.Path.{_≡_, refl, sym, ap, ap₂, _∙_}
+use mathlib.Core.Path.{_≡_, sym, ap, ap₂, _∙_}
 use mathlib.Core.Bool.{Bool, false, cond, not, _||_}
 use mathlib.Core.List.{List, [], _∷_}
 use Prim.Native.Nat.{ℕ, _≤_}
@@ -12,37 +12,22 @@ use Rattle.laws.specs.Rows.{Given}
 use Rattle.laws.proofs.RowLaws.{first-none}
 use Rattle.laws.proofs.TestLaws.{neither}
 use Rattle.refusals.specs.Columns.{lineLimit}
-use Rattle.refusals.specs.declared.Verdict.{Verdict}
-use Rattle.refusals.specs.declared.Verdict.the-variants.{Accepted, Refused}
-use Rattle.refusals.specs.Numbers.{said}
-use Rattle.refusals.proofs.VerdictLaws.{same-said}
+use Rattle.refusals.specs.declared.Verdict.the-variants.{Refused}
+use Rattle.refusals.proofs.VerdictLaws.{same-said, refused-number}
 use Rattle.refusals.proofs.LeftLaws.{alike}
 use Rattle.recording.specs.declared.Answer.{Answer}
 use Rattle.recording.specs.declared.Answer.the-variants.{Recorded}
 use Rattle.recording.specs.Recorded.{Request, Outcome, outcome, yes, some, newActions, recorded, recordRefusal, recordAfter, numberSaid, recordedSaid, Recording}
 
 -- ---- an answer is known by what it says
-verdictOf : Answer → Verdict
-verdictOf (Recorded any) = Accepted
-verdictOf (Answer.Refused k) = Refused k
-
-answerOf : Bool → Verdict → Answer
-answerOf any Accepted = Recorded any
-answerOf any (Refused k) = Answer.Refused k
-
-said-verdict : (r : Answer) → said (verdictOf r) ≡ numberSaid r
-unfolding verdictOf
-said-verdict (Recorded any) = refl
-said-verdict (Answer.Refused k) = refl
-
-read-back : (r : Answer) → answerOf (recordedSaid r) (verdictOf r) ≡ r
-unfolding verdictOf answerOf
-read-back (Recorded any) = refl
-read-back (Answer.Refused k) = refl
-
 pub same-answer : (r u : Answer) → numberSaid r ≡ numberSaid u → recordedSaid r ≡ recordedSaid u → r ≡ u
-same-answer r u n e =
-    sym (read-back r) ∙ ap₂ answerOf e (same-said (verdictOf r) (verdictOf u) (said-verdict r ∙ n ∙ sym (said-verdict u))) ∙ read-back u
+same-answer (Recorded any) (Recorded other) n e = ap Recorded e
+same-answer (Recorded any) (Answer.Refused k) n e = absurd (refused-number k (sym n))
+same-answer (Answer.Refused k) (Recorded any) n e = absurd (refused-number k n)
+same-answer (Answer.Refused k) (Answer.Refused l) n e =
+    let v = same-said (Refused k) (Refused l) n in
+    let same : k ≡ l = cc in
+    ap Answer.Refused same
 
 -- any two answers that the statement allows are equal, and leave the same actions
 pub one-answer : (q : Request) (actions : List ℕ) (r u : Answer) (left other : List ℕ) → Recording q actions r left → Recording q actions u other → (r ≡ u) × (left ≡ other)

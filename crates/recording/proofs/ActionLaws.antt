@@ -1,7 +1,7 @@
 -- The actions that recording gives: a turn of the loop that stores them (`Stored`, `stored-begins`, `stored-next`, `stored-ends`); their number (`length-newActions`); that nothing happens
 -- without a multiplied record (`none-multiplied`).
 -- Assumes nothing.
-use mathlib.Core.Path.{_≡_, refl, sym, ap, ap₂, _∙_}
+use mathlib.Core.Path.{_≡_, refl, sym, ap, _∙_}
 use mathlib.Core.Bool.{Bool, false, _||_}
 use mathlib.Core.List.{List, [], _∷_, _++_}
 use Prim.Native.Nat.{ℕ, suc, _+_, _<_, _≤_}

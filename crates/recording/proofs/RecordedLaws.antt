@@ -17,7 +17,7 @@ use Rattle.refusals.proofs.VerdictLaws.{same-said, refused-number}
 use Rattle.refusals.proofs.LeftLaws.{alike}
 use Rattle.recording.specs.declared.Answer.{Answer}
 use Rattle.recording.specs.declared.Answer.the-variants.{Recorded}
-use Rattle.recording.specs.Recorded.{Request, Outcome, outcome, yes, some, newActions, recorded, recordRefusal, recordAfter, numberSaid, recordedSaid, Recording}
+use Rattle.recording.specs.Recorded.{Request, Outcome, outcome, some, newActions, recorded, recordRefusal, recordAfter, numberSaid, recordedSaid, Recording}
 
 -- ---- an answer is known by what it says
 pub same-answer : (r u : Answer) → numberSaid r ≡ numberSaid u → recordedSaid r ≡ recordedSaid u → r ≡ u

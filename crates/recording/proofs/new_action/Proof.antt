@@ -1,7 +1,7 @@
 -- `recording::new_action` meets its contract: by whether the record is multiplied, and by the parity of its component number.
 -- Assumes nothing.
 use mathlib.Core.Path.{_≡_}
-use Prim.Native.Nat.{ℕ, _%_}
+use Prim.Native.Nat.{_%_}
 use native.Mathlib.Omega.{arith}
 use borrow.Author.Tests.{eq-eqb, ne-eqb}
 use Rattle.recording.specs.Recorded.{newAction}

@@ -1,7 +1,6 @@
 -- `recording::record_all` meets its contract: the flag and the actions stored, with what is still to come, are the whole.
 -- Assumes nothing.
 use Prim.Native.Nat.{_-_}
-use native.Mathlib.Omega.{arith}
 use borrow.Author.Needs.{needs}
 use lib.ListN.{length}
 use Rattle.recording.proofs.ActionLaws.{Stored, stored-begins, stored-next, stored-ends}

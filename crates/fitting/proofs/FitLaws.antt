@@ -1,27 +1,22 @@
 -- Laws of `fitOf`: what it is in each case that the code tells apart: room does not exceed w (`fit-le`); w is not above 0 (`fit-none`, `fit-one`); w is above 0 and
--- the room is a multiple of it (`fit-even`), there are no tiles (`fit-bare`), or something is left (`fit-left`). And a struct that is returned (`ret-plain`, `ret-tight`).
+-- the room is a multiple of it (`fit-even`), there are no tiles (`fit-bare`), or something is left (`fit-left`). And a struct that is returned (`loose-back`, `loose-lent`, `tight-back`).
 -- Assumes nothing.
 use Prim.Native.Nat.{ℕ, zero, suc, _+_, _-_, _<_, _≤_, _*_, _/_, _%_}
 use mathlib.Core.Path.{_≡_, refl, sym, ap, _∙_}
-use mathlib.Core.Bool.{Bool, true, false, _&&_, and-false}
+use mathlib.Core.Bool.{true, false, and-false}
 use native.Mathlib.Omega.{arith}
 use native.Mathlib.Nat.{div-add-mod, div-add-mod', mod-lt, lt-div-mul-add, add-mul, div-le-self, le-div-iff-mul-le}
 use borrow.Author.Tests.{leb-true, leb-false, lt-ltb, le-ltb}
-use lib.Dec.{ltb}
 use lib.IntN.{ℤ, pos, negsuc, negℤ, _-ℤ_, _*ℤ_}
 use lib.Signed.{mag, ltZ, leZ, quotZ}
 use mir.Syntax.{w32}
 use mir.Val.{SFits, toZ, ofZ}
 use mir.ValLaws.{toZ-pos}
 use Rattle.fitting.specs.declared.Fit.{Fit}
-use Rattle.fitting.specs.Fit.{count, whole, added, copies, excess, squeezed, overlap, start, fitOf}
-use Rattle.fitting.proofs.SignedLaws.{back, ret}
+use Rattle.fitting.specs.Fit.{count, whole, added, copies, excess, squeezed, overlap, start, looseFit, fitOf}
+use Rattle.fitting.proofs.SignedLaws.{back}
 
--- tiles that are not squeezed: n copies, from half the room
-unfoldable pub plain : ℤ → ℕ → Fit
-plain room n = record { copies = n; overlap = pos 0; start = quotZ room (pos 2) }
-
--- tiles that are: n copies that overlap by k each, from 0
+-- tiles that are squeezed: n copies that overlap by k each, from 0
 unfoldable pub tight : ℕ → ℕ → Fit
 tight n k = record { copies = n; overlap = pos k; start = pos 0 }
 
@@ -57,12 +52,12 @@ half-fits {z = negsuc n} f = let h : n < 2147483648 = f .sfits in record { sfits
 
 -- ---- by whether a copy was added, and squeezed
 module _ (room w : ℤ) (t : ℕ) where
-  fit-no : added room w t ≡ false → fitOf room w t ≡ plain room (whole room w)
-  unfolding fitOf copies overlap start squeezed plain
+  fit-no : added room w t ≡ false → fitOf room w t ≡ looseFit room (whole room w)
+  unfolding fitOf copies overlap start squeezed looseFit
   fit-no e = simp e
 
-  fit-slack : added room w t ≡ true → ltZ room (pos (whole room w + 1 + 1) *ℤ w) ≡ false → fitOf room w t ≡ plain room (whole room w + 1)
-  unfolding fitOf copies overlap start squeezed plain
+  fit-slack : added room w t ≡ true → ltZ room (pos (whole room w + 1 + 1) *ℤ w) ≡ false → fitOf room w t ≡ looseFit room (whole room w + 1)
+  unfolding fitOf copies overlap start squeezed looseFit
   fit-slack e f = simp (e, f)
 
   fit-squeeze : added room w t ≡ true → ltZ room (pos (whole room w + 1 + 1) *ℤ w) ≡ true
@@ -79,13 +74,13 @@ module _ (room w : ℤ) (t : ℕ) where
   unfolding added
   added-le e = simp (whole-le e, times-one, le-not-lt room w e)
 
-  pub fit-le : leZ room w ≡ true → fitOf room w t ≡ plain room 0
-  fit-le e = fit-no (added-le e) ∙ ap (plain room) (whole-le e)
+  pub fit-le : leZ room w ≡ true → fitOf room w t ≡ looseFit room 0
+  fit-le e = fit-no (added-le e) ∙ ap (looseFit room) (whole-le e)
 
 -- without tiles no copy is added
 none-added : (room w : ℤ) → added room w 0 ≡ false
 unfolding added
-none-added room w = simp and-false
+none-added room w = and-false (ltZ (w *ℤ pos (whole room w + 1)) room)
 
 -- ---- w is not above 0, and room exceeds it
 whole-zero : (room w : ℤ) → count w ≡ 0 → whole room w ≡ 0
@@ -107,16 +102,16 @@ not-twice (negsuc r) (negsuc n) z e =
     rw k (le-ltb (n + n + 1) r (omega arith))
 
 module _ (room w : ℤ) (z : count w ≡ 0) (e : leZ room w ≡ false) where
-  pub fit-none : fitOf room w 0 ≡ plain room 0
-  fit-none = fit-no room w 0 (none-added room w) ∙ ap (plain room) (whole-zero room w z)
+  pub fit-none : fitOf room w 0 ≡ looseFit room 0
+  fit-none = fit-no room w 0 (none-added room w) ∙ ap (looseFit room) (whole-zero room w z)
 
   added-zero : (t : ℕ) → 0 < t → added room w t ≡ true
   unfolding added
   added-zero t h = simp (whole-zero room w z, times-one, nle-lt room w e, lt-ltb 0 t h)
 
-  pub fit-one : (t : ℕ) → 0 < t → fitOf room w t ≡ plain room 1
+  pub fit-one : (t : ℕ) → 0 < t → fitOf room w t ≡ looseFit room 1
   fit-one t h =
-      fit-slack room w t (added-zero t h) (simp (whole-zero room w z) (not-twice room w z e)) ∙ ap (λ (n : ℕ). plain room (n + 1)) (whole-zero room w z)
+      fit-slack room w t (added-zero t h) (simp (whole-zero room w z) (not-twice room w z e)) ∙ ap (λ (n : ℕ). looseFit room (n + 1)) (whole-zero room w z)
 
 -- ---- w is above 0, and room exceeds it
 module _ (r v : ℕ) (p : 0 < v) (q : v < r) where
@@ -130,8 +125,8 @@ module _ (r v : ℕ) (p : 0 < v) (q : v < r) where
   next-is : whole (pos r) (pos v) + 1 ≡ r / v
   next-is = let h = one-at-least in let b = whole-is in omega arith
 
-  pub fit-bare : fitOf (pos r) (pos v) 0 ≡ plain (pos r) (r / v - 1)
-  fit-bare = fit-no (pos r) (pos v) 0 (none-added (pos r) (pos v)) ∙ ap (plain (pos r)) whole-is
+  pub fit-bare : fitOf (pos r) (pos v) 0 ≡ looseFit (pos r) (r / v - 1)
+  fit-bare = fit-no (pos r) (pos v) 0 (none-added (pos r) (pos v)) ∙ ap (looseFit (pos r)) whole-is
 
   added-even : (t : ℕ) → r % v ≡ 0 → added (pos r) (pos v) t ≡ false
   unfolding added
@@ -139,8 +134,8 @@ module _ (r v : ℕ) (p : 0 < v) (q : v < r) where
       let d = div-add-mod r v in
       simp (next-is, le-ltb (v * (r / v)) r (omega arith))
 
-  pub fit-even : (t : ℕ) → r % v ≡ 0 → fitOf (pos r) (pos v) t ≡ plain (pos r) (r / v - 1)
-  fit-even t m = fit-no (pos r) (pos v) t (added-even t m) ∙ ap (plain (pos r)) whole-is
+  pub fit-even : (t : ℕ) → r % v ≡ 0 → fitOf (pos r) (pos v) t ≡ looseFit (pos r) (r / v - 1)
+  fit-even t m = fit-no (pos r) (pos v) t (added-even t m) ∙ ap (looseFit (pos r)) whole-is
 
   added-left : (t : ℕ) → 0 < t → 0 < r % v → added (pos r) (pos v) t ≡ true
   unfolding added
@@ -174,12 +169,14 @@ both-pos (negsuc r′) (pos v′) r v a b e n = let k : _≡_ {A = ℕ} 0 1 = cc
 both-pos room (negsuc v′) r v a b e n = absurd (n b)
 
 -- ---- a struct that is returned, its signed fields read back
--- with half the room for its start
-pub ret-plain : (room w : ℤ) (t n : ℕ) {h : ℤ} → SFits w32 room → h ≡ quotZ (toZ w32 (ofZ w32 room)) (pos 2) → fitOf room w t ≡ plain room n
-    → _≡_ {A = Fit} record { copies = n; overlap = pos 0; start = toZ w32 (ofZ w32 h) } (fitOf room w t)
-unfolding plain
-ret-plain room w t n f e g =
-    ap (λ (z : ℤ). record { copies = n; overlap = pos 0; start = z }) (ret (half-fits f) (rw (back f) at e)) ∙ sym g
+-- half of what fits
+pub loose-back : {room : ℤ} (n : ℕ) → SFits w32 room → _≡_ {A = Fit} record { copies = n; overlap = pos 0; start = toZ w32 (ofZ w32 (quotZ (toZ w32 (ofZ w32 room)) (pos 2))) } (looseFit room n)
+unfolding looseFit
+loose-back n f = ap (λ (z : ℤ). record { copies = n; overlap = pos 0; start = z }) (rw (back f) (back (half-fits f)))
+
+-- what is made of a room that was lent
+pub loose-lent : (room w : ℤ) (t n : ℕ) {x : Fit} → SFits w32 room → x ≡ looseFit (toZ w32 (ofZ w32 room)) n → fitOf room w t ≡ looseFit room n → x ≡ fitOf room w t
+loose-lent room w t n f e g = (rw (back f) at e) ∙ sym g
 
 -- an overlap is no wider than w, which fits
 pub narrow : {z : ℤ} {v : ℕ} → z ≡ pos v → SFits w32 z → (x d : ℕ) → SFits w32 (pos ((v - x) / d))
@@ -189,7 +186,7 @@ narrow {z} {v} e f x d =
     let q = div-le-self (v - x) d in
     record { sfits = omega arith }
 
-pub ret-tight : (room w : ℤ) (t n k : ℕ) → SFits w32 (pos k) → fitOf room w t ≡ tight n k
+pub tight-back : (room w : ℤ) (t n k : ℕ) → SFits w32 (pos k) → fitOf room w t ≡ tight n k
     → _≡_ {A = Fit} record { copies = n; overlap = toZ w32 k; start = pos 0 } (fitOf room w t)
 unfolding tight
-ret-tight room w t n k f g = ap (λ (z : ℤ). record { copies = n; overlap = z; start = pos 0 }) (toZ-pos w32 k (f .sfits)) ∙ sym g
+tight-back room w t n k f g = ap (λ (z : ℤ). record { copies = n; overlap = z; start = pos 0 }) (toZ-pos w32 k (f .sfits)) ∙ sym g

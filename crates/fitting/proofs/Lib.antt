@@ -2,3 +2,4 @@
 -- Assumes nothing.
 pub mod SignedLaws
 pub mod FitLaws
+pub mod FitExamples

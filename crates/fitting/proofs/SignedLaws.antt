@@ -1,5 +1,6 @@
 -- Laws of signed numbers. A signed local holds bits, so that a value is read back from them (`back`, `ret`); the nearest number of 32 bits by the code's tests
--- (`clamp-hi`, `clamp-lo`, `clamp-in`, `clamp-id`); what fits 32 bits (`clamp-fits`, `sat-add-fits`, `sat-sub-fits`) and 64 (`widen`, `add-fits`, `sub-fits`).
+-- (`clamp-hi`, `clamp-lo`, `clamp-in`, `clamp-id`); what fits 32 bits (`clamp-fits`, `sat-add-fits`, `sat-sub-fits`) and 64 (`widen`,
+-- `add-fits`, `sub-fits`); and a sum of two numbers that are widened for it (`wide-fits`, `widened`, `nearest`).
 -- Assumes nothing.
 use Prim.Native.Nat.{ℕ, zero, suc, _+_, _-_, _<_, _≤_}
 use mathlib.Core.Path.{_≡_, ap, _∙_}
@@ -30,20 +31,21 @@ ret f e = ap (λ (z : ℤ). toZ w32 (ofZ w32 z)) e ∙ back f
 pub widen : {z : ℤ} → SFits w32 z → SFits w64 z
 widen {z} f = let h : mag z < 2147483648 = f .sfits in record { sfits = omega arith }
 
--- ---- the nearest number of 32 bits, by the code's two tests
-pub clamp-hi : (s : ℤ) → ltZ (pos 2147483647) s ≡ true → pos 2147483647 ≡ clamped s
+-- ---- the nearest number of 32 bits, by the code's two tests: past the largest number or any above it, and so below
+pub clamp-hi : (s : ℤ) (most : ℕ) → 2147483647 ≤ most → ltZ (pos most) s ≡ true → pos 2147483647 ≡ clamped s
 unfolding clamped
-clamp-hi (pos n) t = let h = ltb-true 2147483647 n t in ap pos (omega arith)
-clamp-hi (negsuc n) t = absurd (false≢true t)
+clamp-hi (pos n) most l t = let h = ltb-true most n t in ap pos (omega arith)
+clamp-hi (negsuc n) most l t = absurd (false≢true t)
 
-pub clamp-lo : (s : ℤ) → ltZ s (negsuc 2147483647) ≡ true → negsuc 2147483647 ≡ clamped s
+pub clamp-lo : (s : ℤ) (most : ℕ) → 2147483647 ≤ most → ltZ s (negsuc most) ≡ true → negsuc 2147483647 ≡ clamped s
 unfolding clamped
-clamp-lo (pos n) t = absurd (false≢true t)
-clamp-lo (negsuc n) t = let h = ltb-true 2147483647 n t in ap negsuc (omega arith)
+clamp-lo (pos n) most l t = absurd (false≢true t)
+clamp-lo (negsuc n) most l t = let h = ltb-true most n t in ap negsuc (omega arith)
 
-pub clamp-in : (s : ℤ) → ltZ (pos 2147483647) s ≡ false → ltZ s (negsuc 2147483647) ≡ false → SFits w32 s
-clamp-in (pos n) t u = let h = ltb-false 2147483647 n t in record { sfits = omega arith }
-clamp-in (negsuc n) t u = let h = ltb-false 2147483647 n u in record { sfits = omega arith }
+-- neither, and each limit is one of 32 bits
+pub clamp-in : (s : ℤ) (most least : ℕ) → most < 2147483648 → least < 2147483648 → ltZ (pos most) s ≡ false → ltZ s (negsuc least) ≡ false → SFits w32 s
+clamp-in (pos n) most least l m t u = let h = ltb-false most n t in record { sfits = omega arith }
+clamp-in (negsuc n) most least l m t u = let h = ltb-false least n u in record { sfits = omega arith }
 
 -- a number that fits is its own nearest
 pub clamp-id : {s : ℤ} → SFits w32 s → clamped s ≡ s
@@ -92,8 +94,22 @@ sub-fits {a} {b} f g =
 
 pub sat-add-fits : (a b : ℤ) → SFits w32 (satAdd a b)
 unfolding satAdd
-sat-add-fits a b = clamp-fits (a +ℤ b)
+sat-add-fits a b = clamp-fits _
 
 pub sat-sub-fits : (a b : ℤ) → SFits w32 (satSub a b)
 unfolding satSub
-sat-sub-fits a b = clamp-fits (a -ℤ b)
+sat-sub-fits a b = clamp-fits _
+
+-- ---- a number that is widened through locals: it fits, and is what it was
+pub wide-fits : {z : ℤ} → SFits w32 z → SFits w64 (toZ w32 (ofZ w32 z))
+wide-fits f = rw (back f) (widen f)
+
+pub widened : {z : ℤ} → SFits w32 z → toZ w64 (ofZ w64 (toZ w32 (ofZ w32 z))) ≡ z
+widened f = rw (back f) (back64 (widen f))
+
+-- the nearest number of what an operation makes of two such, returned through a local
+pub nearest :
+    (op : ℤ → ℤ → ℤ) {a b r : ℤ} → SFits w32 a → SFits w32 b → SFits w64 (op a b)
+    → r ≡ clamped (toZ w64 (ofZ w64 (op (toZ w64 (ofZ w64 (toZ w32 (ofZ w32 a)))) (toZ w64 (ofZ w64 (toZ w32 (ofZ w32 b)))))))
+    → toZ w32 (ofZ w32 r) ≡ clamped (op a b)
+nearest op f g h e = ret (clamp-fits _) (rw (widened f, widened g, back64 h) at e)

@@ -1,7 +1,7 @@
 -- How the repeating tiles of a run, w wide together, fill the room (document 01, "Stretching"): `count` a number as a count; `whole` the copies that
 -- fit whole; `added` whether one more is added; `copies` both; `excess`, `squeezed` by how much these exceed the room, and whether they do;
 -- `overlap` by how much each copy overlaps; `start` where the offsets start; `fitOf` the three together.
--- Sums and products are exact here: those that saturate are the widths' and the room's (READINGS 7).
+-- Sums and products are exact here: those that saturate are the widths' and the room's.
 -- Assumes nothing.
 use Prim.Native.Nat.{ℕ, _+_, _-_, _*_}
 use mathlib.Core.Bool.{Bool, cond, _&&_}
@@ -30,7 +30,7 @@ copies room w tiles = cond (added room w tiles) (whole room w + 1) (whole room w
 unfoldable pub excess : ℤ → ℤ → ℕ → ℤ
 excess room w tiles = pos (copies room w tiles + 1) *ℤ w -ℤ room
 
--- "then, if (copies + 1) × w exceeds room": only where a copy was added (READINGS 8)
+-- "then, if (copies + 1) × w exceeds room": only where a copy was added
 unfoldable pub squeezed : ℤ → ℤ → ℕ → Bool
 squeezed room w tiles = added room w tiles && ltZ room (pos (copies room w tiles + 1) *ℤ w)
 
@@ -41,6 +41,10 @@ overlap room w tiles = cond (squeezed room w tiles) (quotZ (excess room w tiles)
 -- "and room becomes 0. Offsets start at room / 2, towards zero"
 unfoldable pub start : ℤ → ℤ → ℕ → ℤ
 start room w tiles = quotZ (cond (squeezed room w tiles) (pos 0) room) (pos 2)
+
+-- tiles that are not squeezed: so many copies, no overlap, from half the room
+unfoldable pub looseFit : ℤ → ℕ → Fit
+looseFit room n = record { copies = n; overlap = pos 0; start = quotZ room (pos 2) }
 
 unfoldable pub fitOf : ℤ → ℤ → ℕ → Fit
 fitOf room w tiles =

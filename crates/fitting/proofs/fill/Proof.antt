@@ -12,28 +12,25 @@ use mir.Syntax.{w32, w64}
 use mir.Val.{Fits, SFits}
 use Rattle.fitting.specs.Fit.{count}
 use Rattle.fitting.proofs.SignedLaws.{back}
-use Rattle.fitting.proofs.FitLaws.{Above, ret-plain, ret-tight, narrow, fit-le, fit-none, fit-one, both-pos, one-at-least, fit-even, fit-bare, fit-left}
+use Rattle.fitting.proofs.FitLaws.{Above, loose-lent, tight-back, narrow, fit-le, fit-none, fit-one, both-pos, one-at-least, fit-even, fit-bare, fit-left}
 use Rattle.fitting.proofs.fill.Statement.{statement}
 use Rattle.fitting.proofs.fill.Tie as tie
 
 -- what is known where room exceeds w and w is not above 0
-zero-w : (c : tie.Then2) → let a = c .before .before .before .before .before .args in (count (a .w) ≡ 0) × (leZ (a .room) (a .w) ≡ false)
+zero-w : (c : tie.Then2) → let a = c .before .before .before .before .args in (count (a .w) ≡ 0) × (leZ (a .room) (a .w) ≡ false)
 zero-w c =
-    let a = c .before .before .before .before .before in (
+    let a = c .before .before .before .before in (
       sym (rw (back (a .fits .w)) at (c .before .before .count-of2 .ensures)) ∙ c .if2 .taken,
       rw (back (a .fits .room), back (a .fits .w)) at (c .before .if1 .left),
     )
 
 -- and where w is above 0
-pos-w : (c : tie.Else2) → let a = c .before .before .before .before .before .args in Above (a .room) (a .w) (c .before .before .before .count-of .result) (c .before .before .count-of2 .result)
+pos-w : (c : tie.Else2) → let a = c .before .before .before .before .args in Above (a .room) (a .w) (c .before .before .before .count-of .result) (c .before .before .count-of2 .result)
 pos-w c =
-    let a = c .before .before .before .before .before in
+    let a = c .before .before .before .before in
     both-pos _ _ _ _ (rw (back (a .fits .room)) at (c .before .before .before .count-of .ensures))
     (rw (back (a .fits .w)) at (c .before .before .count-of2 .ensures))
     (rw (back (a .fits .room), back (a .fits .w)) at (c .before .if1 .left)) (c .if2 .left)
-
-half-requires : tie.Need-half-requires
-half-requires c κs = search needs
 
 count-of-requires : tie.Need-count-of-requires
 count-of-requires c κs = search needs
@@ -41,26 +38,32 @@ count-of-requires c κs = search needs
 count-of-requires-2 : tie.Need-count-of-requires-2
 count-of-requires-2 c κs = search needs
 
+loose-requires : tie.Need-loose-requires
+loose-requires c κs = search needs
+
 returns : tie.Need-returns
 returns c =
     let a = c .before .before .before .before in
     let f = a .fits .room in
-    ret-plain (a .args .room) (a .args .w) (a .args .tiles) 0 f (c .before .before .before .half .ensures)
-    (fit-le _ _ _ (rw (back f, back (a .fits .w)) at (c .if1 .taken)))
+    loose-lent (a .args .room) (a .args .w) (a .args .tiles) 0 f (c .loose .ensures) (fit-le _ _ _ (rw (back f, back (a .fits .w)) at (c .before .if1 .taken)))
+
+loose-requires-2 : tie.Need-loose-requires-2
+loose-requires-2 c κs = search needs
 
 returns-2 : tie.Need-returns-2
 returns-2 c =
     let a = c .before .before .before .before .before .before in
-    let k = zero-w (c .before) in
-    ret-plain (a .args .room) (a .args .w) (a .args .tiles) 0 (a .fits .room) (c .before .before .before .before .before .half .ensures)
-    (rw (c .if3 .taken) (fit-none _ _ (k .0) (k .1)))
+    let k = zero-w (c .before .before) in
+    loose-lent (a .args .room) (a .args .w) (a .args .tiles) 0 (a .fits .room) (c .loose2 .ensures) (rw (c .before .if3 .taken) (fit-none _ _ (k .0) (k .1)))
+
+loose-requires-3 : tie.Need-loose-requires-3
+loose-requires-3 c κs = search needs
 
 returns-3 : tie.Need-returns-3
 returns-3 c =
     let a = c .before .before .before .before .before .before in
-    let k = zero-w (c .before) in
-    ret-plain (a .args .room) (a .args .w) (a .args .tiles) 1 (a .fits .room) (c .before .before .before .before .before .half .ensures)
-    (fit-one _ _ (k .0) (k .1) _ (omega (arith, c .if3 .left)))
+    let k = zero-w (c .before .before) in
+    loose-lent (a .args .room) (a .args .w) (a .args .tiles) 1 (a .fits .room) (c .loose3 .ensures) (fit-one _ _ (k .0) (k .1) _ (omega (arith, c .before .if3 .left)))
 
 div-q : tie.Need-div-q
 div-q c = search needs
@@ -68,28 +71,34 @@ div-q c = search needs
 rem-left : tie.Need-rem-left
 rem-left c = search needs
 
-sub-t11 : tie.Need-sub-t11
-sub-t11 c = let k = pos-w (c .before) in one-at-least _ _ (k .some) (k .less)
+sub-loose : tie.Need-sub-loose
+sub-loose c = let k = pos-w (c .before) in one-at-least _ _ (k .some) (k .less)
+
+loose-requires-4 : tie.Need-loose-requires-4
+loose-requires-4 c κs = search needs
 
 returns-4 : tie.Need-returns-4
 returns-4 c =
     let a = c .before .before .before .before .before .before in
-    let k = pos-w (c .before) in
-    ret-plain (a .args .room) (a .args .w) (a .args .tiles) _ (a .fits .room) (c .before .before .before .before .before .half .ensures)
-    (rw (k .room-is, k .w-is) (fit-even _ _ (k .some) (k .less) _ (c .if4 .taken)))
+    let k = pos-w (c .before .before) in
+    loose-lent (a .args .room) (a .args .w) (a .args .tiles) _ (a .fits .room) (c .loose4 .ensures)
+    (rw (k .room-is, k .w-is) (fit-even _ _ (k .some) (k .less) _ (c .before .if4 .taken)))
 
-sub-t12 : tie.Need-sub-t12
-sub-t12 c = let k = pos-w (c .before .before) in one-at-least _ _ (k .some) (k .less)
+sub-loose-2 : tie.Need-sub-loose-2
+sub-loose-2 c = let k = pos-w (c .before .before) in one-at-least _ _ (k .some) (k .less)
+
+loose-requires-5 : tie.Need-loose-requires-5
+loose-requires-5 c κs = search needs
 
 returns-5 : tie.Need-returns-5
 returns-5 c =
     let a = c .before .before .before .before .before .before .before in
-    let k = pos-w (c .before .before) in
-    ret-plain (a .args .room) (a .args .w) (a .args .tiles) _ (a .fits .room) (c .before .before .before .before .before .before .half .ensures)
-    (rw (k .room-is, k .w-is, c .if5 .taken) (fit-bare _ _ (k .some) (k .less)))
+    let k = pos-w (c .before .before .before) in
+    loose-lent (a .args .room) (a .args .w) (a .args .tiles) _ (a .fits .room) (c .loose5 .ensures)
+    (rw (k .room-is, k .w-is, c .before .if5 .taken) (fit-bare _ _ (k .some) (k .less)))
 
-sub-t13 : tie.Need-sub-t13
-sub-t13 c =
+sub-t12 : tie.Need-sub-t12
+sub-t12 c =
     let k = pos-w (c .before .before) in
     le-of-lt (mod-lt (c .before .before .before .before .before .count-of .result) (k .some))
 
@@ -103,48 +112,52 @@ quotient r v t e f h =
     let n = mul-le-mul-left 2147483648 h in
     record { fits = omega arith }
 
-mul-t14 : tie.Need-mul-t14
-mul-t14 c =
-    let a = c .before .before .before .before .before .before .before in
-    let k = pos-w (c .before .before) in quotient _ _ _ (k .room-is) (a .fits .room) (a .pre)
+mul-t13 : tie.Need-mul-t13
+mul-t13 c =
+    let a = c .before .before .before .before .before .before in
+    quotient _ _ _ (pos-w (c .before .before) .room-is) (a .fits .room) (a .pre)
 
-div-t15 : tie.Need-div-t15
-div-t15 c =
+div-t14 : tie.Need-div-t14
+div-t14 c =
     let k = pos-w (c .before .before) in
     let r = c .before .before .before .before .before .count-of .result in
     let v = c .before .before .before .before .count-of2 .result in
     mul-pos (one-at-least r v (k .some) (k .less)) (omega (arith, c .if5 .left))
 
-cast-t16 : tie.Need-cast-t16
-cast-t16 c =
-    let a = c .before .before .before .before .before .before .before in
+cast-t15 : tie.Need-cast-t15
+cast-t15 c =
+    let a = c .before .before .before .before .before .before in
     narrow (pos-w (c .before .before) .w-is) (a .fits .w) _ _
 
 returns-6 : tie.Need-returns-6
 returns-6 c =
     let k = pos-w (c .before .before) in
-    let a = c .before .before .before .before .before .before .before in
-    ret-tight (a .args .room) (a .args .w) (a .args .tiles) _ _ (narrow (k .w-is) (a .fits .w) _ _)
+    let a = c .before .before .before .before .before .before in
+    tight-back (a .args .room) (a .args .w) (a .args .tiles) _ _ (narrow (k .w-is) (a .fits .w) _ _)
     (rw (k .room-is, k .w-is) (fit-left _ _ (k .some) (k .less) _ (omega (arith, c .if5 .left)) (omega (arith, c .before .if4 .left))))
 
 pub fill-spec : {M : Type 1} → statement M
 fill-spec =
     tie.close
     (tie.spec
-    half-requires
     count-of-requires
     count-of-requires-2
+    loose-requires
     returns
+    loose-requires-2
     returns-2
+    loose-requires-3
     returns-3
     div-q
     rem-left
-    sub-t11
+    sub-loose
+    loose-requires-4
     returns-4
-    sub-t12
+    sub-loose-2
+    loose-requires-5
     returns-5
-    sub-t13
-    mul-t14
-    div-t15
-    cast-t16
+    sub-t12
+    mul-t13
+    div-t14
+    cast-t15
     returns-6)

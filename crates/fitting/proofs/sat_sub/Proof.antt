@@ -1,35 +1,27 @@
 -- `fitting::sat_sub` meets its contract: the difference fits 64 bits, and its nearest number is returned.
 -- Assumes nothing.
-use mathlib.Core.Path.{sym, _∙_}
 use borrow.Author.Needs.{needs}
-use mir.Syntax.{w32, w64}
-use Rattle.fitting.specs.Saturating.{clamped, satSub}
-use Rattle.fitting.proofs.SignedLaws.{back, ret, back64, widen, sub-fits, clamp-fits}
+use lib.IntN.{_-ℤ_}
+use Rattle.fitting.specs.Saturating.{satSub}
+use Rattle.fitting.proofs.SignedLaws.{sub-fits, wide-fits, widened, nearest}
 use Rattle.fitting.proofs.sat_sub.Statement.{statement}
 use Rattle.fitting.proofs.sat_sub.Tie as tie
 
 cast-clamp : tie.Need-cast-clamp
-cast-clamp c = rw (back (c .fits .a)) (widen (c .fits .a))
+cast-clamp c = wide-fits (c .fits .a)
 
 cast-clamp-2 : tie.Need-cast-clamp-2
-cast-clamp-2 c = rw (back (c .fits .b)) (widen (c .fits .b))
+cast-clamp-2 c = wide-fits (c .fits .b)
 
 sub-clamp : tie.Need-sub-clamp
-sub-clamp c =
-    let f = c .fits .a in
-    let g = c .fits .b in
-    rw (back f, back g, back64 (widen f), back64 (widen g)) (sub-fits f g)
+sub-clamp c = rw (widened (c .fits .a), widened (c .fits .b)) (sub-fits (c .fits .a) (c .fits .b))
 
 clamp-requires : tie.Need-clamp-requires
 clamp-requires c κs = search needs
 
 returns : tie.Need-returns
 unfolding satSub
-returns c =
-    let f = c .before .fits .a in
-    let g = c .before .fits .b in
-    let e = rw (back f, back g, back64 (widen f), back64 (widen g), back64 (sub-fits f g)) at (c .clamp .ensures) in
-    ret (clamp-fits _) e
+returns c = let f = c .before .fits in nearest _-ℤ_ (f .a) (f .b) (sub-fits (f .a) (f .b)) (c .clamp .ensures)
 
 pub sat-sub-spec : {M : Type 1} → statement M
 sat-sub-spec = tie.close (tie.spec cast-clamp cast-clamp-2 sub-clamp clamp-requires returns)

@@ -1,0 +1,39 @@
+-- Fits of document 01's worked examples, and of READINGS 7 and 8, computed from the definition. A room of 10, one tile but for the last.
+-- Assumes nothing.
+use mathlib.Core.Path.{_≡_, refl}
+use Prim.Native.Nat.{ℕ}
+use lib.IntN.{ℤ, pos, negsuc}
+use Rattle.fitting.specs.declared.Fit.{Fit}
+use Rattle.fitting.specs.Fit.{count, whole, added, copies, excess, squeezed, overlap, start, fitOf}
+
+abbrev fit : ℕ → ℤ → ℤ → Fit
+fit copies overlap start = record { copies = copies; overlap = overlap; start = start }
+
+-- "repeating tile 4": two copies that overlap by 1
+tile-4 : fitOf (pos 10) (pos 4) 1 ≡ fit 2 (pos 1) (pos 0)
+unfolding fitOf copies overlap start squeezed excess added whole count
+tile-4 = refl
+
+-- "Tile 5": an exact fit, and nothing is taken off the room
+tile-5 : fitOf (pos 10) (pos 5) 1 ≡ fit 1 (pos 0) (pos 5)
+unfolding fitOf copies overlap start squeezed excess added whole count
+tile-5 = refl
+
+-- "Repeating tile 0": one copy, from the middle; so a tile of -4 (READINGS 8)
+tile-0 : fitOf (pos 10) (pos 0) 1 ≡ fit 1 (pos 0) (pos 5)
+unfolding fitOf copies overlap start squeezed excess added whole count
+tile-0 = refl
+
+tile-minus-4 : fitOf (pos 10) (negsuc 3) 1 ≡ fit 1 (pos 0) (pos 5)
+unfolding fitOf copies overlap start squeezed excess added whole count
+tile-minus-4 = refl
+
+-- "Fixed tile 13 after advance 10": a room of -3, whose half is -1
+fixed-13 : fitOf (negsuc 2) (pos 0) 0 ≡ fit 0 (pos 0) (negsuc 0)
+unfolding fitOf copies overlap start squeezed excess added whole count
+fixed-13 = refl
+
+-- the largest room, a tile of 2 ^ 30: products and excess are exact (READINGS 7)
+largest : fitOf (pos 2147483647) (pos 1073741824) 1 ≡ fit 1 (pos 1) (pos 0)
+unfolding fitOf copies overlap start squeezed excess added whole count
+largest = refl

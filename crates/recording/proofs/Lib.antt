@@ -1,0 +1,4 @@
+-- The modules that belong to no one function.
+-- Assumes nothing.
+pub mod ActionLaws
+pub mod RecordedLaws

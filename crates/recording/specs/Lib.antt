@@ -1,0 +1,3 @@
+-- What the contracts of `recording` cite.
+-- Assumes nothing.
+pub mod Recorded

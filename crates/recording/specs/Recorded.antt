@@ -1,0 +1,95 @@
+-- Recording `stch` (document 01, "Stretching"): `Request` what is asked for; `Outcome` what is there afterwards; `yes`, `some` what a yes-or-no column says; `tile`, `newAction`, `newActions` the
+-- action that a record gets; `recorded` what recording gives; `rowsOf`, `recordRows`, `recordRefusal` when it is refused, and with which number; `numberSaid`, `recordedSaid` what an answer says;
+-- `recordAfter`, `Recording` what the call answers and leaves, of every input.
+-- Assumes nothing.
+use mathlib.Core.Path.{_≡_}
+use mathlib.Core.Bool.{Bool, false, cond, not, _||_}
+use mathlib.Core.List.{List, [], _∷_}
+use Prim.Native.Nat.{ℕ, _%_}
+use lib.Dec.{eqb, ltb}
+use lib.ListN.{length}
+use Rattle.laws.specs.Rows.{Row, Given, first}
+use Rattle.refusals.specs.Numbers.{numberOf}
+use Rattle.refusals.specs.Columns.{lineLimit}
+use Rattle.refusals.specs.Left.{Left, After, leaves}
+use Rattle.letters.specs.Actions.{fixed, repeating}
+use Rattle.recording.specs.declared.Answer.{Answer}
+use Rattle.recording.specs.declared.Answer.the-variants.{Recorded, Refused}
+
+-- the mask of `stch`, which records are multiplied, and their component numbers
+pub record Request : Type 0 where
+  pub mask : ℕ
+  pub multiplied : List ℕ
+  pub components : List ℕ
+
+-- whether any was recorded, and the column of actions afterwards
+pub record Outcome : Type 0 where
+  pub recorded : Bool
+  pub actions : List ℕ
+
+abbrev pub requestOf : ℕ → List ℕ → List ℕ → Request
+requestOf mask multiplied components = record { mask = mask; multiplied = multiplied; components = components }
+
+abbrev pub outcome : Bool → List ℕ → Outcome
+outcome recorded actions = record { recorded = recorded; actions = actions }
+
+-- "In a yes-or-no column 0 is no"; and a mask of 0 is none
+abbrev pub yes : ℕ → Bool
+yes n = not (eqb n 0)
+
+-- any of a column says yes
+abbrev pub some : List ℕ → Bool
+some [] = false
+some (n ∷ column) = yes n || some column
+
+-- "repeating if its component number is odd, else fixed"
+abbrev pub tile : ℕ → ℕ
+tile component = cond (eqb (component % 2) 1) repeating fixed
+
+-- "Recording gives each multiplied record" this; any other keeps its action
+unfoldable pub newAction : ℕ → ℕ → ℕ → ℕ
+newAction multiplied component action = cond (yes multiplied) (tile component) action
+
+-- record by record; of columns of unequal length, up to the shortest
+abbrev pub newActions : List ℕ → List ℕ → List ℕ → List ℕ
+newActions [] components actions = []
+newActions (m ∷ multiplied) [] actions = []
+newActions (m ∷ multiplied) (c ∷ components) [] = []
+newActions (m ∷ multiplied) (c ∷ components) (a ∷ actions) = newAction m c a ∷ newActions multiplied components actions
+
+-- "Without a `stch` mask, or without a multiplied record, nothing happens. Its answer says whether any was recorded": that nothing happens without
+-- a multiplied record needs no case of its own
+abbrev pub recorded : Request → List ℕ → Outcome
+recorded q actions =
+    cond (yes (q .mask)) (outcome (some (q .multiplied)) (newActions (q .multiplied) (q .components) actions)) (outcome false actions)
+
+-- the rows of document 01's table that recording uses, for columns of n, m and k records
+abbrev pub rowsOf : ℕ → ℕ → ℕ → List Row
+rowsOf n m k =
+    Given 1 (not (eqb n m) || not (eqb n k)) ∷
+    Given 2 (ltb lineLimit n) ∷
+    []
+
+-- for a request on a column of actions, with or without a mask; and the number that it is refused with, 0 if it is not
+abbrev pub recordRows : Request → List ℕ → List Row
+recordRows q actions = rowsOf (length (q .multiplied)) (length (q .components)) (length actions)
+
+unfoldable pub recordRefusal : Request → List ℕ → ℕ
+recordRefusal q actions = first (recordRows q actions)
+
+-- what an answer says; a refusal says that nothing was recorded
+abbrev pub numberSaid : Answer → ℕ
+numberSaid (Recorded any) = 0
+numberSaid (Refused k) = numberOf k
+
+abbrev pub recordedSaid : Answer → Bool
+recordedSaid (Recorded any) = any
+recordedSaid (Refused k) = false
+
+-- the call: a refusal gives its number, and leaves the actions as they were
+abbrev pub recordAfter : Request → List ℕ → Left Outcome
+recordAfter q actions = leaves (recordRefusal q actions) (outcome false actions) (recorded q actions)
+
+-- the statement of `record_stch`: asked for q on a column of actions, it may answer r and leave the column `left`
+abbrev pub Recording : Request → List ℕ → Answer → List ℕ → Type 0
+Recording q actions r left = After (numberSaid r) (outcome (recordedSaid r) left) ≡ recordAfter q actions

@@ -11,9 +11,10 @@ use lib.IntN.{ℤ}
 use Rattle.laws.specs.Lists.{those, behind}
 use Rattle.laws.proofs.ListLaws.{length-parted}
 use Rattle.letters.specs.Actions.{repeating}
-use Rattle.runs.specs.Records.{Record}
+use Rattle.runs.specs.Records.{Record, kept}
+use Rattle.runs.specs.declared.Tile.{Tile}
 use Rattle.runs.specs.Runs.{acts, isTile, isPlain, plain, run, pastRun, tiles, copiesOf}
-use Rattle.runs.specs.Stretched.{Piece, piece, pieces, runPieces, inOrder, placed, placedRun, worked, stretched, recordsAdded}
+use Rattle.runs.specs.Stretched.{Piece, piece, pieces, copiesFor, runPieces, inOrder, placed, placedRun, worked, stretched, recordsAdded}
 use Rattle.runs.proofs.RecordLaws.{length-in-order}
 
 -- ---- at a record that is no tile
@@ -110,16 +111,16 @@ unfolding placed
 length-placed rtl x [] = refl
 length-placed rtl x (p ∷ ps) = ap suc (length-placed rtl _ ps)
 
-pub length-pieces : (copies : ℕ) (overlap : ℤ) (r : Record) → length (pieces copies overlap r) ≡ 1 + cond (acts repeating r) copies 0
+pub length-pieces : (n : ℕ) (overlap : ℤ) (t : Tile) → length (pieces n overlap t) ≡ 1 + n
 unfolding pieces
-length-pieces copies overlap r = rw (length-replicate (cond (acts repeating r) copies 0) (piece r overlap)) (omega arith)
+length-pieces n overlap t = rw (length-replicate n (piece t overlap)) (omega arith)
 
 length-run-pieces : (copies : ℕ) (overlap : ℤ) (l : List Record) → length (runPieces copies overlap l) ≡ length l + copies * length (those (acts repeating) l)
 unfolding runPieces
 length-run-pieces copies overlap [] = omega arith
 length-run-pieces copies overlap (r ∷ rs) =
-    length-append (pieces copies overlap r) (runPieces copies overlap rs)
-    ∙ rw (length-pieces copies overlap r, length-run-pieces copies overlap rs) (go (acts repeating r))
+    length-append (pieces (copiesFor copies r) overlap (kept r)) (runPieces copies overlap rs)
+    ∙ rw (length-pieces (copiesFor copies r) overlap (kept r), length-run-pieces copies overlap rs) (go (acts repeating r))
   where
     go : (t : Bool) → 1 + cond t copies 0 + (length rs + copies * length (those (acts repeating) rs)) ≡ suc (length rs) + copies * length (cond t (r ∷ those (acts repeating) rs) (those (acts repeating) rs))
     go true = rw (mul-suc copies (length (those (acts repeating) rs))) (omega arith)

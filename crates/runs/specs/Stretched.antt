@@ -1,4 +1,4 @@
--- The stretched line (document 01, "Stretching"), as a list of records in the order of the work: `inOrder`, `work`, `partOf` that order; `Piece`, `pieces`, `runPieces` a tile and its copies; `next`, `offsetAt`, `put`, `placed` where they come to stand; `placedRun` a run, placed;
+-- The stretched line (document 01, "Stretching"), as a list of records in the order of the work: `inOrder`, `work`, `partOf` that order; `Piece`, `pieces`, `copiesFor`, `runPieces` a tile and its copies; `next`, `offsetAt`, `placed` where they come to stand; `placedRun` a run, placed;
 -- `worked` the whole line; `stretched` the same in the line's own order; `recordsAdded` how many records that adds.
 -- Assumes nothing.
 use mathlib.Core.Bool.{Bool, true, false, cond}
@@ -8,7 +8,8 @@ use lib.ListN.{replicate}
 use lib.IntN.{ℤ, pos}
 use Rattle.letters.specs.Actions.{repeating}
 use Rattle.fitting.specs.Saturating.{satAdd, satSub}
-use Rattle.runs.specs.Records.{Record, Columns, lineOf}
+use Rattle.runs.specs.Records.{Record, Columns, lineOf, kept, put}
+use Rattle.runs.specs.declared.Tile.{Tile}
 use Rattle.runs.specs.Runs.{acts, isTile, run, tiles, copiesOf, overlapOf, startOf}
 
 -- "Stretching works from the end"; left to right "the line is reversed before and after", so that it works from the start
@@ -23,22 +24,26 @@ work rtl c = inOrder rtl (lineOf c)
 unfoldable pub partOf : Bool → ℕ → ℕ → ℕ → ℕ
 partOf rtl n k s = cond rtl (n - k - s) k
 
--- a record that is to be placed, with the overlap that it takes
+-- a tile that is to be placed, with the overlap that it takes
 pub record Piece : Type 0 where
-  pub of : Record
+  pub of : Tile
   pub lap : ℤ
 
-abbrev pub piece : Record → ℤ → Piece
-piece r lap = record { of = r; lap = lap }
+abbrev pub piece : Tile → ℤ → Piece
+piece t lap = record { of = t; lap = lap }
 
--- a tile, which takes no overlap; then, if it repeats, its copies, which do
-unfoldable pub pieces : ℕ → ℤ → Record → List Piece
-pieces copies overlap r = piece r (pos 0) ∷ replicate (cond (acts repeating r) copies 0) (piece r overlap)
+-- a tile, which takes no overlap, and n copies of it, which do
+unfoldable pub pieces : ℕ → ℤ → Tile → List Piece
+pieces n overlap t = piece t (pos 0) ∷ replicate n (piece t overlap)
 
--- of each tile of a run
+-- how many copies a record of a run gets: only repeating tiles are copied
+abbrev pub copiesFor : ℕ → Record → ℕ
+copiesFor copies r = cond (acts repeating r) copies 0
+
+-- the tiles of a run, each with its copies
 unfoldable pub runPieces : ℕ → ℤ → List Record → List Piece
 runPieces copies overlap [] = []
-runPieces copies overlap (r ∷ rs) = pieces copies overlap r ++ runPieces copies overlap rs
+runPieces copies overlap (r ∷ rs) = pieces (copiesFor copies r) overlap (kept r) ++ runPieces copies overlap rs
 
 -- "Right to left, each record first subtracts its width and, for a copy, adds the overlap"; otherwise "its width is added and, for a copy, the overlap subtracted"
 unfoldable pub next : Bool → ℤ → Piece → ℤ
@@ -48,19 +53,7 @@ next rtl x p = cond rtl (satAdd (satSub x (p .of .width)) (p .lap)) (satSub (sat
 unfoldable pub offsetAt : Bool → ℤ → Piece → ℤ
 offsetAt rtl x p = cond rtl (next rtl x p) x
 
--- "Run records get advance 0"; "a copy keeps the first five"
-abbrev pub put : Record → ℤ → ℤ → Record
-put r advance offset = record {
-  glyph = r .glyph;
-  width = r .width;
-  category = r .category;
-  ignorable = r .ignorable;
-  action = r .action;
-  advance = advance;
-  offset = offset;
-}
-
--- pieces placed one after the other, from the offset x on
+-- pieces placed one after the other, from the offset x on: "Run records get advance 0"
 unfoldable pub placed : Bool → ℤ → List Piece → List Record
 placed rtl x [] = []
 placed rtl x (p ∷ ps) = put (p .of) (pos 0) (offsetAt rtl x p) ∷ placed rtl (next rtl x p) ps

@@ -13,6 +13,15 @@ ghost use Rattle.runs.specs.Measured.{Even, NextRun, SumsAt, WordAt, Mea
 use letters::Action;
 use letters::Category;
 
+// What a copy of a record keeps.
+pub struct Tile {
+    pub glyph: u32,
+    pub width: i32,
+    pub category: u8,
+    pub ignorable: u8,
+    pub action: u8,
+}
+
 // What a run comes to: the widths of its fixed tiles and of its repeating ones, how many of these it has, and the place past it.
 pub struct Sums {
     pub fixed: i32,

@@ -1,0 +1,2 @@
+-- The laws of `stretching`.
+-- Assumes nothing.

@@ -1,0 +1,3 @@
+-- What the contract of `stretch` cites.
+-- Assumes nothing.
+pub mod Stretching

@@ -1,0 +1,111 @@
+-- The call that stretches a line: `Request` what is asked for; `Columns` (crate runs) what is lent, the line's and the output's; `Outcome` what is there afterwards; `newLine` what stretching gives; `over` where it is laid;
+-- `Lengths`, `lengths`, `unequal`, `shorter`, `stretchRows`, `stretchRefusal` when it is refused, and with which number; `numberSaid`, `lengthSaid` what an answer says; `stretchAfter`, `Stretching` what the call answers and leaves, of every input.
+-- Assumes nothing.
+use mathlib.Core.Path.{_≡_}
+use mathlib.Core.Bool.{Bool, cond, not, _&&_, _||_}
+use mathlib.Core.List.{List, [], _∷_, _++_}
+use Prim.Native.Nat.{ℕ}
+use lib.Dec.{eqb, ltb}
+use lib.ListN.{length, drop}
+use Rattle.laws.specs.Rows.{Row, Given, first}
+use Rattle.refusals.specs.Numbers.{numberOf}
+use Rattle.refusals.specs.Columns.{lineLimit, atMost}
+use Rattle.refusals.specs.Left.{Left, After, leaves}
+use Rattle.letters.specs.Categories.{Zs}
+use Rattle.letters.specs.Actions.{repeating}
+use Rattle.runs.specs.Records.{Record, Columns, columns, lineOf, columnsOf}
+use Rattle.runs.specs.Stretched.{stretched}
+use Rattle.stretching.specs.declared.Answer.{Answer}
+use Rattle.stretching.specs.declared.Answer.the-variants.{Stretched, Refused}
+
+-- "a stretched line of over 16,384 records"
+abbrev pub stretchedLimit : ℕ
+stretchedLimit = 16384
+
+-- whether any record was recorded, the direction, and the line
+pub record Request : Type 0 where
+  pub recorded : Bool
+  pub rtl : Bool
+  pub line : Columns
+
+abbrev pub requestOf : Bool → Bool → Columns → Request
+requestOf recorded rtl line = record { recorded = recorded; rtl = rtl; line = line }
+
+-- the length that the call answers, and the output columns afterwards
+pub record Outcome : Type 0 where
+  pub count : ℕ
+  pub output : Columns
+
+abbrev pub outcome : ℕ → Columns → Outcome
+outcome count output = record { count = count; output = output }
+
+-- "stretching is lent this and, if not, gives the line as it is"
+abbrev pub newLine : Request → List Record
+newLine q = cond (q .recorded) (stretched (q .rtl) (lineOf (q .line))) (lineOf (q .line))
+
+-- records over the first places of the output: "Output past the answer is untouched"
+abbrev pub over : Columns → Columns → ℕ → Columns
+over new old n =
+    columns
+    (new .glyphs ++ drop n (old .glyphs))
+    (new .widths ++ drop n (old .widths))
+    (new .categories ++ drop n (old .categories))
+    (new .ignorables ++ drop n (old .ignorables))
+    (new .actions ++ drop n (old .actions))
+    (new .advances ++ drop n (old .advances))
+    (new .offsets ++ drop n (old .offsets))
+
+abbrev pub laidOver : List Record → Columns → Columns
+laidOver l output = over (columnsOf l) output (length l)
+
+-- "columns that belong together differ in length": some column is not as long as the actions
+abbrev pub unequal : Columns → Bool
+unequal c =
+    not (eqb (length (c .glyphs)) (length (c .actions)))
+    || (not (eqb (length (c .widths)) (length (c .actions)))
+    || (not (eqb (length (c .categories)) (length (c .actions)))
+    || (not (eqb (length (c .ignorables)) (length (c .actions)))
+    || (not (eqb (length (c .advances)) (length (c .actions)))
+    || not (eqb (length (c .offsets)) (length (c .actions)))))))
+
+-- "the lent output is shorter than the answer": "each by its own part"
+abbrev pub shorter : ℕ → Columns → Bool
+shorter n c =
+    ltb (length (c .glyphs)) n
+    || (ltb (length (c .widths)) n
+    || (ltb (length (c .categories)) n
+    || (ltb (length (c .ignorables)) n
+    || (ltb (length (c .actions)) n
+    || (ltb (length (c .advances)) n
+    || ltb (length (c .offsets)) n)))))
+
+-- the rows of document 01's table that stretching uses, under a cap
+abbrev pub stretchRows : ℕ → Request → Columns → List Row
+stretchRows cap q output =
+    Given 1 (unequal (q .line)) ∷
+    Given 2 (ltb lineLimit (length (q .line .actions))) ∷
+    -- "a .. category above 29, action above 9"
+    Given 3 (not (atMost Zs (q .line .categories) && atMost repeating (q .line .actions))) ∷
+    Given 6 (ltb cap (length (newLine q))) ∷
+    Given 8 (shorter (length (newLine q)) output) ∷
+    []
+
+unfoldable pub stretchRefusal : ℕ → Request → Columns → ℕ
+stretchRefusal cap q output = first (stretchRows cap q output)
+
+-- what an answer says; a refusal has its number, and 0 for the length
+abbrev pub numberSaid : Answer → ℕ
+numberSaid (Stretched n) = 0
+numberSaid (Refused k) = numberOf k
+
+abbrev pub lengthSaid : Answer → ℕ
+lengthSaid (Stretched n) = n
+lengthSaid (Refused k) = 0
+
+-- the call under a cap: a refusal leaves the output as it was
+abbrev pub stretchAfter : ℕ → Request → Columns → Left Outcome
+stretchAfter cap q output = leaves (stretchRefusal cap q output) (outcome 0 output) (outcome (length (newLine q)) (laidOver (newLine q) output))
+
+-- the statement of `stretch`: asked for q with an output lent, it may answer r and leave the output `left`
+abbrev pub Stretching : Request → Columns → Answer → Columns → Type 0
+Stretching q output r left = After (numberSaid r) (outcome (lengthSaid r) left) ≡ stretchAfter stretchedLimit q output

@@ -24,7 +24,7 @@ pub record Counting (l : List Record) (k n : ℕ) : Type 0 where
   pub all : recordsAdded false l ≡ n + recordsAdded false (drop k l)
 
 -- past the plain records from a place on
-next-is : (l : List Record) (from : ℕ) → drop (from + length (plain (drop from l))) l ≡ behind isPlain (drop from l)
+pub next-is : (l : List Record) (from : ℕ) → drop (from + length (plain (drop from l))) l ≡ behind isPlain (drop from l)
 next-is l from = sym (drop-drop (length (plain (drop from l))) from l) ∙ front-past isPlain (drop from l)
 
 module _ (l : List Record) where

@@ -1,14 +1,15 @@
--- A line's records in the order of the work: a list in that order has its length (`length-in-order`), and twice turned it is itself (`order-twice`); the place that comes k-th (`part-fits`, `spot-below`, `getD-in-order`, `set-in-order`); the records still to come at k
--- (`work-next`, `work-ends`).
+-- A line's records in the order of the work: a list in that order has its length (`length-in-order`), and twice turned it is itself (`order-twice`), as is one of at most one element (`order-none`, `order-one`); the place that comes k-th (`part-fits`, `spot-below`, `getD-in-order`, `set-in-order`); the records still to come at k
+-- (`work-next`, `work-ends`); the line itself (`length-line`, `line-at`, `column-of`); a part of it (`part-in-order`).
 -- Assumes nothing.
 use mathlib.Core.Path.{_≡_, refl, sym, ap, _∙_}
 use mathlib.Core.Bool.{Bool, true, false, cond}
-use mathlib.Core.List.{List, [], _∷_, _++_, map, reverse, reverseAux, reverse-cons, reverse-reverse}
+use mathlib.Core.List.{List, [], _∷_, _++_, map, reverse, reverseAux, reverse-cons, reverse-append, reverse-reverse, append-assoc}
 use Prim.Native.Nat.{ℕ, zero, suc, _+_, _-_, _<_, _≤_}
 use native.Mathlib.Omega.{arith}
 use native.Mathlib.Decide.{decLt}
-use lib.ListN.{length, getD, set, drop, drop-of-length-le, length-append, length-reverse, length-map, List·getD-append}
-use lib.Seq.{getD-append-seam, set-append-seam, set-append-left}
+use lib.ListN.{length, getD, set, take, drop, drop-of-length-le, length-append, length-reverse, length-drop, length-map, List·getD-append, List·getD-map}
+use lib.Seq.{slice, getD-append-seam, set-append-seam, set-append-left, length-slice, take-at, drop-at, ext-getD}
+use Rattle.laws.proofs.PartLaws.{three-parts, slice-mid}
 use lib.IntN.{pos}
 use Rattle.laws.proofs.LoopLaws.{drop-next}
 use Rattle.runs.specs.Records.{Record, Columns, recordAt, listed, lineOf}
@@ -36,6 +37,16 @@ module _ {A : Type 0} where
   unfolding inOrder
   order-twice true l = reverse-reverse l
   order-twice false l = refl
+
+  pub order-none : (rtl : Bool) → inOrder {A = A} rtl [] ≡ []
+  unfolding inOrder
+  order-none true = refl
+  order-none false = refl
+
+  pub order-one : (rtl : Bool) (x : A) → inOrder rtl (x ∷ []) ≡ x ∷ []
+  unfolding inOrder
+  order-one true x = refl
+  order-one false x = refl
 
   getD-reverse : (l : List A) (k : ℕ) (d : A) → k < length l → getD (reverse l) k d ≡ getD l (length l - k - 1) d
   getD-reverse [] k d h = absurd (omega arith)
@@ -71,6 +82,21 @@ module _ {A : Type 0} where
   set-in-order true l k v h = set-reverse l k v h
   set-in-order false l k v h = refl
 
+  -- the s that come from the k-th on, as a part of the list
+  pub part-in-order : (rtl : Bool) (l : List A) (k s : ℕ) → k + s ≤ length l → slice (partOf rtl (length l) k s) (partOf rtl (length l) k s + s) l ≡ inOrder rtl (take s (drop k (inOrder rtl l)))
+  unfolding inOrder partOf
+  part-in-order true l k s h =
+      let i : ℕ = length l - k - s in
+      let T = take i l in
+      let B = slice i (i + s) l in
+      let E = drop (i + s) l in
+      let parts : l ≡ T ++ (B ++ E) = three-parts l i (i + s) (omega arith) (omega arith) in
+      let back : reverse l ≡ reverse E ++ (reverse B ++ reverse T) = ap reverse parts ∙ reverse-append T (B ++ E) ∙ ap (λ (m : List A). m ++ reverse T) (reverse-append B E) ∙ append-assoc (reverse E) (reverse B) (reverse T) in
+      let last : length (reverse E) ≡ k = length-reverse E ∙ length-drop (i + s) l ∙ omega arith in
+      let middle : length (reverse B) ≡ s = length-reverse B ∙ length-slice i (i + s) l (omega arith) ∙ omega arith in
+      sym (ap (λ (m : List A). reverse (take s (drop k m))) back ∙ ap (λ (m : List A). reverse (take s m)) (drop-at (reverse E) (reverse B ++ reverse T) k last) ∙ ap reverse (take-at (reverse B) (reverse T) s middle) ∙ reverse-reverse B)
+  part-in-order false l k s h = sym (slice-mid k (k + s) l) ∙ ap (λ (n : ℕ). take n (drop k l)) (let e : k + s - k ≡ s = omega arith in e)
+
   length-listed : (f : ℕ → A) (n : ℕ) → length (listed f n) ≡ n
   unfolding listed
   length-listed f zero = refl
@@ -92,23 +118,39 @@ module _ {A B : Type 0} (f : A → B) where
   map-in-order true l = map-onto l []
   map-in-order false l = refl
 
--- ---- the records of a line
-module _ (rtl : Bool) (c : Columns) where
-  pub length-line : length (lineOf c) ≡ length (c .actions)
-  unfolding lineOf
-  length-line = length-listed (recordAt c) (length (c .actions))
+  pub map-listed : (g : ℕ → A) (n : ℕ) → map f (listed g n) ≡ listed (λ (k : ℕ). f (g k)) n
+  unfolding listed
+  map-listed g zero = refl
+  map-listed g (suc n) = ap (λ (l : List B). f (g 0) ∷ l) (map-listed (λ (k : ℕ). g (suc k)) n)
 
+-- ---- the records of a line
+pub length-line : (c : Columns) → length (lineOf c) ≡ length (c .actions)
+unfolding lineOf
+length-line c = length-listed (recordAt c) (length (c .actions))
+
+pub line-at : (c : Columns) (i : ℕ) → i < length (c .actions) → getD (lineOf c) i blank ≡ recordAt c i
+unfolding lineOf
+line-at c i h = getD-listed (recordAt c) (length (c .actions)) i blank h
+
+-- a column of the line is the one that it was made of, if that is as long as the actions
+pub column-of : {A : Type 0} (f : Record → A) (c : Columns) (column : List A) → length column ≡ length (c .actions) → ((i : ℕ) → f (recordAt c i) ≡ getD column i (f blank)) → map f (lineOf c) ≡ column
+column-of f c column e h =
+    let n : length (map f (lineOf c)) ≡ length (c .actions) = length-map (lineOf c) f ∙ length-line c in
+    ext-getD (f blank) (map f (lineOf c)) column (n ∙ sym e)
+    (λ i k. List·getD-map f (lineOf c) i blank ∙ ap f (line-at c i (rw n at k)) ∙ h i)
+
+module _ (rtl : Bool) (c : Columns) where
   pub length-work : length (work rtl c) ≡ length (c .actions)
   unfolding work
-  length-work = length-in-order rtl (lineOf c) ∙ length-line
+  length-work = length-in-order rtl (lineOf c) ∙ length-line c
 
   pub work-at : (k : ℕ) → k < length (c .actions) → getD (work rtl c) k blank ≡ recordAt c (partOf rtl (length (c .actions)) k 1)
-  unfolding work lineOf
+  unfolding work
   work-at k h =
-      let n = length-listed (recordAt c) (length (c .actions)) in
-      getD-in-order rtl (listed (recordAt c) (length (c .actions))) k blank (rw n h)
-      ∙ ap (λ (m : ℕ). getD (listed (recordAt c) (length (c .actions))) (partOf rtl m k 1) blank) n
-      ∙ getD-listed (recordAt c) (length (c .actions)) (partOf rtl (length (c .actions)) k 1) blank (spot-below rtl (length (c .actions)) k h)
+      let n = length-line c in
+      getD-in-order rtl (lineOf c) k blank (rw n h)
+      ∙ ap (λ (m : ℕ). getD (lineOf c) (partOf rtl m k 1) blank) n
+      ∙ line-at c (partOf rtl (length (c .actions)) k 1) (spot-below rtl (length (c .actions)) k h)
 
   -- the record that comes k-th, and those that come then
   pub work-next : (k : ℕ) → k < length (c .actions) → drop k (work rtl c) ≡ recordAt c (partOf rtl (length (c .actions)) k 1) ∷ drop (k + 1) (work rtl c)

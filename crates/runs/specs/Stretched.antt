@@ -1,4 +1,4 @@
--- The stretched line (document 01, "Stretching"), as a list of records in the order of the work: `inOrder`, `work`, `partOf` that order; `Piece`, `pieces`, `copiesFor`, `runPieces` a tile and its copies; `next`, `offsetAt`, `placed` where they come to stand; `placedRun` a run, placed;
+-- The stretched line (document 01, "Stretching"), as a list of records in the order of the work: `inOrder`, `work`, `partOf` that order; `Piece`, `pieces`, `copiesFor`, `runPieces` a tile and its copies; `moved`, `next`, `offsetAt`, `placed` where they come to stand; `placedRun` a run, placed;
 -- `worked` the whole line; `stretched` the same in the line's own order; `recordsAdded` how many records that adds.
 -- Assumes nothing.
 use mathlib.Core.Bool.{Bool, true, false, cond}
@@ -46,8 +46,11 @@ runPieces copies overlap [] = []
 runPieces copies overlap (r ∷ rs) = pieces (copiesFor copies r) overlap (kept r) ++ runPieces copies overlap rs
 
 -- "Right to left, each record first subtracts its width and, for a copy, adds the overlap"; otherwise "its width is added and, for a copy, the overlap subtracted"
+unfoldable pub moved : Bool → ℤ → ℤ → ℤ → ℤ
+moved rtl x width lap = cond rtl (satAdd (satSub x width) lap) (satSub (satAdd x width) lap)
+
 unfoldable pub next : Bool → ℤ → Piece → ℤ
-next rtl x p = cond rtl (satAdd (satSub x (p .of .width)) (p .lap)) (satSub (satAdd x (p .of .width)) (p .lap))
+next rtl x p = moved rtl x (p .of .width) (p .lap)
 
 -- right to left this is "first"; otherwise "once a record is placed"
 unfoldable pub offsetAt : Bool → ℤ → Piece → ℤ

@@ -66,7 +66,7 @@ pub fn part(rtl: bool, n: usize, k: usize, s: usize) -> usize
 }
 
 // An element of a column of signed numbers.
-fn at(column: &[i32], i: usize) -> i32
+pub fn at(column: &[i32], i: usize) -> i32
     requires { ⌜ i < length (now column) ⌝ }
     ensures { λ r. ⌜ r ≡ getD (now (column .entry)) i (pos 0) ⌝ }
 {

@@ -1,0 +1,145 @@
+-- `placing::write` meets its contract: what the records still to come become makes the columns what they are to be.
+-- Assumes nothing.
+use mathlib.Core.Path.{refl}
+use mathlib.Core.Bool.{false}
+use Prim.Native.Nat.{_-_}
+use native.Mathlib.Omega.{arith}
+use lib.ListN.{length}
+use Rattle.runs.specs.Records.{columns}
+use Rattle.runs.specs.Stretched.{work, worked}
+use Rattle.runs.specs.Measured.{Even, Lent}
+use Rattle.placing.specs.Laid.{laid, EvenTiles, bare}
+use Rattle.placing.proofs.LaidLaws.{roomy-same}
+use Rattle.placing.proofs.WriteLaws.{Writing, writing-starts, next-fits, past-fits, past-above, kept-fits, room-kept, run-has-room, writing-next, writing-ends}
+use Rattle.placing.proofs.write.Statement.{statement}
+use Rattle.placing.proofs.write.Tie as tie
+
+abbrev Inv-loop : tie.InvT-loop
+Inv-loop rtl glyphs widths categories ignorables actions advances offsets m to-glyphs₀ to-widths₀ to-categories₀ to-ignorables₀ to-actions₀ to-advances₀ to-offsets₀ n at₀ k₀ to-glyphs to-widths to-categories to-ignorables to-actions to-advances to-offsets at k =
+    Writing rtl m (columns glyphs widths categories ignorables actions advances offsets) (columns to-glyphs₀ to-widths₀ to-categories₀ to-ignorables₀ to-actions₀ to-advances₀ to-offsets₀)
+    (laid rtl m 0 (worked rtl false (work rtl (columns glyphs widths categories ignorables actions advances offsets))) (columns to-glyphs₀ to-widths₀ to-categories₀ to-ignorables₀ to-actions₀ to-advances₀ to-offsets₀))
+    k at (columns to-glyphs to-widths to-categories to-ignorables to-actions to-advances to-offsets)
+
+abbrev μ-loop : tie.MeasureT-loop
+μ-loop rtl glyphs widths categories ignorables actions advances offsets m to-glyphs₀ to-widths₀ to-categories₀ to-ignorables₀ to-actions₀ to-advances₀ to-offsets₀ n at₀ k₀ to-glyphs to-widths to-categories to-ignorables to-actions to-advances to-offsets at k = n - k
+
+-- the columns that a run is measured by, and those that it is placed by
+lent-all : (s : tie.Start Inv-loop μ-loop) → Lent (columns (s .args .glyphs .now) (s .args .widths .now) (s .args .categories .now) (s .args .ignorables .now) (s .args .actions .now) (s .args .advances .now) (s .args .offsets .now)) (s .args .widths .now) (s .args .categories .now) (s .args .ignorables .now) (s .args .actions .now) (s .args .advances .now)
+lent-all s = record { hasWidths = refl; hasCategories = refl; hasIgnorables = refl; hasActions = refl; hasAdvances = refl }
+
+even-sums : (s : tie.Start Inv-loop μ-loop) → Even (length (s .args .actions .now)) (s .args .widths .now) (s .args .categories .now) (s .args .ignorables .now) (s .args .advances .now)
+even-sums s =
+    let e = s .pre .1 .0 in
+    record { evenWidths = e .evenWidths; evenCategories = e .evenCategories; evenIgnorables = e .evenIgnorables; evenAdvances = e .evenAdvances }
+
+even-tiles : (s : tie.Start Inv-loop μ-loop) → EvenTiles (bare (s .args .glyphs .now) (s .args .widths .now) (s .args .categories .now) (s .args .ignorables .now) (s .args .actions .now))
+even-tiles s =
+    let e = s .pre .1 .0 in
+    record { tileGlyphs = e .evenGlyphs; tileWidths = e .evenWidths; tileCategories = e .evenCategories; tileIgnorables = e .evenIgnorables }
+
+loop-holds : tie.Need-loop-holds Inv-loop μ-loop
+loop-holds c = let s = c .before .before .before .before .before .before .before .before in writing-starts _ _ _ _ (s .pre .1 .1 .0)
+
+next-run-requires : tie.Need-next-run-requires Inv-loop μ-loop
+next-run-requires c κs = (c .before .loop .inv .fits, c .before .before .before .before .before .before .before .before .before .before .pre .0 .1)
+
+sub-s : tie.Need-sub-s Inv-loop μ-loop
+sub-s c =
+    let t = c .before .before in
+    let s = c .before .before .before .before .before .before .before .before .before .before .before in
+    let a = s .args in
+    omega (arith, c .next-run .ensures (columns (a .glyphs .now) (a .widths .now) (a .categories .now) (a .ignorables .now) (a .actions .now) (a .advances .now) (a .offsets .now)) refl)
+
+keep-requires : tie.Need-keep-requires Inv-loop μ-loop
+keep-requires c κs =
+    let t = c .before .before .before .before .before .before .before .before .before in
+    let s = c .before .before .before .before .before .before .before .before .before .before .before .before .before .before .before .before .before .before in
+    let a = s .args in
+    (kept-fits (a .rtl) (a .m) (columns (a .glyphs .now) (a .widths .now) (a .categories .now) (a .ignorables .now) (a .actions .now) (a .advances .now) (a .offsets .now)) _ _ (t .loop .k) (t .loop .at) _ (t .loop .inv) (c .before .before .before .before .before .before .before .next-run .result) (c .before .before .before .before .before .before .before .next-run .ensures (columns (a .glyphs .now) (a .widths .now) (a .categories .now) (a .ignorables .now) (a .actions .now) (a .advances .now) (a .offsets .now)) refl), (s .pre .1 .0, roomy-same (t .loop .inv .same) (s .pre .1 .1 .1)))
+
+measured-at-requires : tie.Need-measured-at-requires Inv-loop μ-loop
+measured-at-requires c κs =
+    let t = c .before .before .before .before .before .before .before .before .before .before .before .before .before .before .before .before .before .before .before .before .before in
+    let s = c .before .before .before .before .before .before .before .before .before .before .before .before .before .before .before .before .before .before .before .before .before .before .before .before .before .before .before .before .before .before in
+    let a = s .args in
+    (next-fits (a .rtl) (a .m) (columns (a .glyphs .now) (a .widths .now) (a .categories .now) (a .ignorables .now) (a .actions .now) (a .advances .now) (a .offsets .now)) _ _ (t .loop .k) (t .loop .at) _ (t .loop .inv) (c .before .before .before .before .before .before .before .before .before .before .before .before .before .before .before .before .before .before .before .next-run .result) (c .before .before .before .before .before .before .before .before .before .before .before .before .before .before .before .before .before .before .before .next-run .ensures (columns (a .glyphs .now) (a .widths .now) (a .categories .now) (a .ignorables .now) (a .actions .now) (a .advances .now) (a .offsets .now)) refl), (s .pre .0 .0, even-sums s))
+
+add-place-run : tie.Need-add-place-run Inv-loop μ-loop
+add-place-run c =
+    let t = c .before .before .before .before .before .before .before .before .before .before .before .before .before .before .before .before .before .before .before .before .before .before in
+    let s = c .before .before .before .before .before .before .before .before .before .before .before .before .before .before .before .before .before .before .before .before .before .before .before .before .before .before .before .before .before .before .before in
+    let a = s .args in
+    record { fits = omega (arith, kept-fits (a .rtl) (a .m) (columns (a .glyphs .now) (a .widths .now) (a .categories .now) (a .ignorables .now) (a .actions .now) (a .advances .now) (a .offsets .now)) _ _ (t .loop .k) (t .loop .at) _ (t .loop .inv) (c .before .before .before .before .before .before .before .before .before .before .before .before .before .before .before .before .before .before .before .before .next-run .result) (c .before .before .before .before .before .before .before .before .before .before .before .before .before .before .before .before .before .before .before .before .next-run .ensures (columns (a .glyphs .now) (a .widths .now) (a .categories .now) (a .ignorables .now) (a .actions .now) (a .advances .now) (a .offsets .now)) refl) .1, s .fits .m) }
+
+place-run-requires : tie.Need-place-run-requires Inv-loop μ-loop
+place-run-requires c κs =
+    let t = c .before .before .before .before .before .before .before .before .before .before .before .before .before .before .before .before .before .before .before .before .before .before .before .before .before .before .before .before .before in
+    let s = c .before .before .before .before .before .before .before .before .before .before .before .before .before .before .before .before .before .before .before .before .before .before .before .before .before .before .before .before .before .before .before .before .before .before .before .before .before .before in
+    let a = s .args in
+    (past-fits (a .rtl) (a .m) (columns (a .glyphs .now) (a .widths .now) (a .categories .now) (a .ignorables .now) (a .actions .now) (a .advances .now) (a .offsets .now)) _ _ (t .loop .k) (t .loop .at) _ (t .loop .inv) (c .before .before .before .before .before .before .before .before .before .before .before .before .before .before .before .before .before .before .before .before .before .before .before .before .before .before .before .next-run .result) (c .before .before .before .before .before .before .before .before .before .before .before .before .before .before .before .before .before .before .before .before .before .before .before .before .before .before .before .next-run .ensures (columns (a .glyphs .now) (a .widths .now) (a .categories .now) (a .ignorables .now) (a .actions .now) (a .advances .now) (a .offsets .now)) refl) (c .before .before .before .before .before .before .before .measured-at .result) (c .before .before .before .before .before .before .before .measured-at .ensures (columns (a .glyphs .now) (a .widths .now) (a .categories .now) (a .ignorables .now) (a .actions .now) (a .advances .now) (a .offsets .now)) (lent-all s)), (even-tiles s, (run-has-room (a .rtl) (a .m) (columns (a .glyphs .now) (a .widths .now) (a .categories .now) (a .ignorables .now) (a .actions .now) (a .advances .now) (a .offsets .now)) _ _ (t .loop .k) (t .loop .at) _ (t .loop .inv) (c .before .before .before .before .before .before .before .before .before .before .before .before .before .before .before .before .before .before .before .before .before .before .before .before .before .before .before .next-run .result) (c .before .before .before .before .before .before .before .before .before .before .before .before .before .before .before .before .before .before .before .before .before .before .before .before .before .before .before .next-run .ensures (columns (a .glyphs .now) (a .widths .now) (a .categories .now) (a .ignorables .now) (a .actions .now) (a .advances .now) (a .offsets .now)) refl) (c .before .before .before .before .before .before .before .measured-at .result) (c .before .before .before .before .before .before .before .measured-at .ensures (columns (a .glyphs .now) (a .widths .now) (a .categories .now) (a .ignorables .now) (a .actions .now) (a .advances .now) (a .offsets .now)) (lent-all s)), room-kept (a .rtl) (a .m) (columns (a .glyphs .now) (a .widths .now) (a .categories .now) (a .ignorables .now) (a .actions .now) (a .advances .now) (a .offsets .now)) _ _ (t .loop .k) (t .loop .at) _ (t .loop .inv) (c .before .before .before .before .before .before .before .before .before .before .before .before .before .before .before .before .before .before .before .before .before .before .before .before .before .before .before .next-run .result) (c .before .before .before .before .before .before .before .before .before .before .before .before .before .before .before .before .before .before .before .before .before .before .before .before .before .before .before .next-run .ensures (columns (a .glyphs .now) (a .widths .now) (a .categories .now) (a .ignorables .now) (a .actions .now) (a .advances .now) (a .offsets .now)) refl) (s .pre .1 .1 .1) _ (c .before .before .before .before .before .before .before .before .before .before .before .before .before .before .before .before .before .before .before .keep .ensures))))
+
+loop-less : tie.Need-loop-less Inv-loop μ-loop
+loop-less c =
+    let t = c .before .before .before .before .before .before .before .before .before .before .before .before .before .before .before .before .before .before .before .before .before .before .before .before .before .before .before .before .before .before .before .before .before .before .before .before .before .before .before .before .before in
+    let s = c .before .before .before .before .before .before .before .before .before .before .before .before .before .before .before .before .before .before .before .before .before .before .before .before .before .before .before .before .before .before .before .before .before .before .before .before .before .before .before .before .before .before .before .before .before .before .before .before .before .before in
+    let a = s .args in
+    omega (arith, past-above (a .rtl) (a .m) (columns (a .glyphs .now) (a .widths .now) (a .categories .now) (a .ignorables .now) (a .actions .now) (a .advances .now) (a .offsets .now)) _ _ (t .loop .k) (t .loop .at) _ (t .loop .inv) (c .before .before .before .before .before .before .before .before .before .before .before .before .before .before .before .before .before .before .before .before .before .before .before .before .before .before .before .before .before .before .before .before .before .before .before .before .before .before .before .next-run .result) (c .before .before .before .before .before .before .before .before .before .before .before .before .before .before .before .before .before .before .before .before .before .before .before .before .before .before .before .before .before .before .before .before .before .before .before .before .before .before .before .next-run .ensures (columns (a .glyphs .now) (a .widths .now) (a .categories .now) (a .ignorables .now) (a .actions .now) (a .advances .now) (a .offsets .now)) refl) (c .before .before .before .before .before .before .before .before .before .before .before .before .before .before .before .before .before .before .before .measured-at .result) (c .before .before .before .before .before .before .before .before .before .before .before .before .before .before .before .before .before .before .before .measured-at .ensures (columns (a .glyphs .now) (a .widths .now) (a .categories .now) (a .ignorables .now) (a .actions .now) (a .advances .now) (a .offsets .now)) (lent-all s)) (c .before .before .before .before .before .before .before .before .before .before .before .before .before .before .before .before .before .before .before .before .before .before .before .before .before .before .before .before .before .before .before .before .before .before .before .before .before .before .before .before .loop-test .taken), past-fits (a .rtl) (a .m) (columns (a .glyphs .now) (a .widths .now) (a .categories .now) (a .ignorables .now) (a .actions .now) (a .advances .now) (a .offsets .now)) _ _ (t .loop .k) (t .loop .at) _ (t .loop .inv) (c .before .before .before .before .before .before .before .before .before .before .before .before .before .before .before .before .before .before .before .before .before .before .before .before .before .before .before .before .before .before .before .before .before .before .before .before .before .before .before .next-run .result) (c .before .before .before .before .before .before .before .before .before .before .before .before .before .before .before .before .before .before .before .before .before .before .before .before .before .before .before .before .before .before .before .before .before .before .before .before .before .before .before .next-run .ensures (columns (a .glyphs .now) (a .widths .now) (a .categories .now) (a .ignorables .now) (a .actions .now) (a .advances .now) (a .offsets .now)) refl) (c .before .before .before .before .before .before .before .before .before .before .before .before .before .before .before .before .before .before .before .measured-at .result) (c .before .before .before .before .before .before .before .before .before .before .before .before .before .before .before .before .before .before .before .measured-at .ensures (columns (a .glyphs .now) (a .widths .now) (a .categories .now) (a .ignorables .now) (a .actions .now) (a .advances .now) (a .offsets .now)) (lent-all s)) .1)
+
+loop-again : tie.Need-loop-again Inv-loop μ-loop
+loop-again c =
+    let t = c .before .before .before .before .before .before .before .before .before .before .before .before .before .before .before .before .before .before .before .before .before .before .before .before .before .before .before .before .before .before .before .before .before .before .before .before .before .before .before .before .before in
+    let s = c .before .before .before .before .before .before .before .before .before .before .before .before .before .before .before .before .before .before .before .before .before .before .before .before .before .before .before .before .before .before .before .before .before .before .before .before .before .before .before .before .before .before .before .before .before .before .before .before .before .before in
+    let a = s .args in
+    writing-next (a .rtl) (a .m) (columns (a .glyphs .now) (a .widths .now) (a .categories .now) (a .ignorables .now) (a .actions .now) (a .advances .now) (a .offsets .now)) _ _ (t .loop .k) (t .loop .at) _ (t .loop .inv) (c .before .before .before .before .before .before .before .before .before .before .before .before .before .before .before .before .before .before .before .before .before .before .before .before .before .before .before .before .before .before .before .before .before .before .before .before .before .before .before .next-run .result) (c .before .before .before .before .before .before .before .before .before .before .before .before .before .before .before .before .before .before .before .before .before .before .before .before .before .before .before .before .before .before .before .before .before .before .before .before .before .before .before .next-run .ensures (columns (a .glyphs .now) (a .widths .now) (a .categories .now) (a .ignorables .now) (a .actions .now) (a .advances .now) (a .offsets .now)) refl) (c .before .before .before .before .before .before .before .before .before .before .before .before .before .before .before .before .before .before .before .measured-at .result) (c .before .before .before .before .before .before .before .before .before .before .before .before .before .before .before .before .before .before .before .measured-at .ensures (columns (a .glyphs .now) (a .widths .now) (a .categories .now) (a .ignorables .now) (a .actions .now) (a .advances .now) (a .offsets .now)) (lent-all s)) (s .pre .1 .1 .1) _ _ (c .before .before .before .before .before .before .before .before .before .before .before .before .before .before .before .before .before .before .before .before .before .before .before .before .before .before .before .before .before .before .before .keep .ensures) (c .before .before .before .before .before .before .before .before .before .before .before .place-run .ensures .1) (c .before .before .before .before .before .before .before .before .before .before .before .place-run .result) (c .before .before .before .before .before .before .before .before .before .before .before .place-run .ensures .0)
+
+same-length : tie.Need-same-length Inv-loop μ-loop
+same-length c = c .before .loop .inv .same .sameGlyphs
+
+same-length-2 : tie.Need-same-length-2 Inv-loop μ-loop
+same-length-2 c = c .before .loop .inv .same .sameWidths
+
+same-length-3 : tie.Need-same-length-3 Inv-loop μ-loop
+same-length-3 c = c .before .loop .inv .same .sameCategories
+
+same-length-4 : tie.Need-same-length-4 Inv-loop μ-loop
+same-length-4 c = c .before .loop .inv .same .sameIgnorables
+
+same-length-5 : tie.Need-same-length-5 Inv-loop μ-loop
+same-length-5 c = c .before .loop .inv .same .sameActions
+
+same-length-6 : tie.Need-same-length-6 Inv-loop μ-loop
+same-length-6 c = c .before .loop .inv .same .sameAdvances
+
+same-length-7 : tie.Need-same-length-7 Inv-loop μ-loop
+same-length-7 c = c .before .loop .inv .same .sameOffsets
+
+returns : tie.Need-returns Inv-loop μ-loop
+returns c =
+    let t = c .before in
+    let s = c .before .before .before .before .before .before .before .before .before .before in
+    let a = s .args in
+    writing-ends (a .rtl) (a .m) (columns (a .glyphs .now) (a .widths .now) (a .categories .now) (a .ignorables .now) (a .actions .now) (a .advances .now) (a .offsets .now)) _ _ (t .loop .k) (t .loop .at) _ (t .loop .inv) (c .loop-test .left)
+
+pub write-spec : {M : Type 1} → statement M
+write-spec =
+    tie.close
+    (tie.spec
+    Inv-loop
+    μ-loop
+    loop-holds
+    next-run-requires
+    sub-s
+    keep-requires
+    measured-at-requires
+    add-place-run
+    place-run-requires
+    loop-less
+    loop-again
+    same-length
+    same-length-2
+    same-length-3
+    same-length-4
+    same-length-5
+    same-length-6
+    same-length-7
+    returns)

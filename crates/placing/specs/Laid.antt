@@ -1,0 +1,70 @@
+-- Records laid into lent columns: `pasted` a part of a column written over; `laidOn` one column of records laid in the order of the work, from a place on; `laid` all seven; `EvenLine` that a line's columns are of one length, `Roomy` that the output's have room; `bare`, `EvenTiles`, `piecesFrom` the pieces of a run; `after` where the next piece starts.
+-- Assumes nothing.
+use mathlib.Core.Path.{_≡_}
+use mathlib.Core.Bool.{Bool}
+use mathlib.Core.List.{List, [], _∷_, _++_, map}
+use Prim.Native.Nat.{ℕ, _+_, _≤_}
+use lib.ListN.{length, take, drop}
+use lib.Seq.{slice}
+use lib.IntN.{ℤ}
+use Rattle.runs.specs.Records.{Record, Columns, columns}
+use Rattle.runs.specs.Stretched.{inOrder, work, partOf, Piece, runPieces, next}
+use Rattle.runs.specs.declared.Measured.{Measured}
+
+-- a column with a part of it written over, from a place on
+unfoldable pub pasted : {A : Type 0} → List A → ℕ → List A → List A
+pasted part i column = take i column ++ (part ++ drop (i + length part) column)
+
+-- a column of the first m records of a line, with records laid there that come from the k-th on in the order of the work
+unfoldable pub laidOn : {A : Type 0} → (Record → A) → Bool → ℕ → ℕ → List Record → List A → List A
+laidOn f rtl m k l column = pasted (inOrder rtl (map f l)) (partOf rtl m k (length l)) column
+
+unfoldable pub laid : Bool → ℕ → ℕ → List Record → Columns → Columns
+laid rtl m k l c =
+    columns
+    (laidOn (λ (r : Record). r .glyph) rtl m k l (c .glyphs))
+    (laidOn (λ (r : Record). r .width) rtl m k l (c .widths))
+    (laidOn (λ (r : Record). r .category) rtl m k l (c .categories))
+    (laidOn (λ (r : Record). r .ignorable) rtl m k l (c .ignorables))
+    (laidOn (λ (r : Record). r .action) rtl m k l (c .actions))
+    (laidOn (λ (r : Record). r .advance) rtl m k l (c .advances))
+    (laidOn (λ (r : Record). r .offset) rtl m k l (c .offsets))
+
+-- a line's columns are of one length
+pub record EvenLine (c : Columns) : Type 0 where
+  pub evenGlyphs : length (c .glyphs) ≡ length (c .actions)
+  pub evenWidths : length (c .widths) ≡ length (c .actions)
+  pub evenCategories : length (c .categories) ≡ length (c .actions)
+  pub evenIgnorables : length (c .ignorables) ≡ length (c .actions)
+  pub evenAdvances : length (c .advances) ≡ length (c .actions)
+  pub evenOffsets : length (c .offsets) ≡ length (c .actions)
+
+-- each column has room for m records
+pub record Roomy (m : ℕ) (c : Columns) : Type 0 where
+  pub forGlyphs : m ≤ length (c .glyphs)
+  pub forWidths : m ≤ length (c .widths)
+  pub forCategories : m ≤ length (c .categories)
+  pub forIgnorables : m ≤ length (c .ignorables)
+  pub forActions : m ≤ length (c .actions)
+  pub forAdvances : m ≤ length (c .advances)
+  pub forOffsets : m ≤ length (c .offsets)
+
+-- a line of which only what copies keep is known: placing a run asks for no more
+abbrev pub bare : List ℕ → List ℤ → List ℕ → List ℕ → List ℕ → Columns
+bare glyphs widths categories ignorables actions = columns glyphs widths categories ignorables actions [] []
+
+-- its columns are of one length
+pub record EvenTiles (c : Columns) : Type 0 where
+  pub tileGlyphs : length (c .glyphs) ≡ length (c .actions)
+  pub tileWidths : length (c .widths) ≡ length (c .actions)
+  pub tileCategories : length (c .categories) ≡ length (c .actions)
+  pub tileIgnorables : length (c .ignorables) ≡ length (c .actions)
+
+-- the pieces of the run whose records come from the k-th on
+unfoldable pub piecesFrom : Bool → ℕ → Measured → Columns → List Piece
+piecesFrom rtl k run c = runPieces (run .copies) (run .overlap) (slice k (run .past) (work rtl c))
+
+-- the offset from which the piece behind these is placed
+unfoldable pub after : Bool → ℤ → List Piece → ℤ
+after rtl x [] = x
+after rtl x (p ∷ ps) = after rtl (next rtl x p) ps

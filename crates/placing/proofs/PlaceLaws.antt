@@ -11,8 +11,9 @@ use Rattle.runs.specs.declared.Tile.{Tile}
 use Rattle.runs.specs.Records.{Record, Columns, columns, put}
 use Rattle.runs.specs.Stretched.{partOf, Piece, piece, pieces, moved, next, offsetAt, placed}
 use Rattle.runs.proofs.StretchedLaws.{length-placed}
-use Rattle.placing.specs.Laid.{laid, Roomy, after}
-use Rattle.placing.proofs.LaidLaws.{laid-none, laid-one, laid-then, SameLengths, same-lengths, lengths-laid, lengths-then, roomy-same}
+use Rattle.laying.specs.Laid.{laid, Roomy}
+use Rattle.placing.specs.Placed.{after}
+use Rattle.laying.proofs.LaidLaws.{laid-none, laid-one, laid-then, SameLengths, same-lengths, lengths-laid, lengths-then, roomy-same}
 
 -- of a tile, n pieces: the first overlaps by lap, the others by `overlap`
 abbrev pub laps : Tile → ℤ → ℤ → ℕ → List Piece

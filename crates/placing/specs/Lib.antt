@@ -1,3 +1,3 @@
 -- What the contracts of `placing` cite.
 -- Assumes nothing.
-pub mod Laid
+pub mod Placed

@@ -1,95 +1,17 @@
-// Placing: the records of a line and of its stretched runs, laid into the lent output in the order of the work.
+// Placing: the tiles of a run and their copies, laid into the lent output one after the other.
 ghost use mathlib.Core.Path.{_≡_};
-ghost use mathlib.Core.Bool.{true, false, cond};
+ghost use mathlib.Core.Bool.{cond};
 ghost use Prim.Native.Nat.{_+_, _≤_};
 ghost use lib.Dec.{eqb};
-ghost use lib.ListN.{length, take, drop};
-ghost use lib.Seq.{slice};
-ghost use lib.IntN.{pos};
-ghost use Rattle.refusals.specs.Columns.{lineLimit, atMost};
+ghost use lib.ListN.{length};
 ghost use Rattle.letters.specs.Actions.{repeating};
 ghost use Rattle.runs.specs.Records.{columns};
-ghost use Rattle.runs.specs.Stretched.{work, moved as movedBy, pieces, placed, placedRun, worked};
-ghost use Rattle.runs.specs.Measured.{measuredOf};
-ghost use Rattle.placing.specs.Laid.{pasted, after, laid, EvenLine, Roomy, bare, EvenTiles, piecesFrom};
+ghost use Rattle.runs.specs.Stretched.{moved as movedBy, pieces, placed};
+ghost use Rattle.laying.specs.Laid.{laid, Roomy};
+ghost use Rattle.placing.specs.Placed.{after, bare, EvenTiles, piecesFrom};
 use letters::Action;
 use runs::Measured;
 use runs::Tile;
-
-// Copies `s` bytes of a column from `i` on to another from `o` on. The next two do the same for numbers of 32 bits: there is no function over a type.
-fn copy_bytes(from: &[u8], i: usize, s: usize, to: &mut [u8], o: usize)
-    requires { ⌜ (i + s ≤ length (now from)) × (o + s ≤ length (now to)) ⌝ }
-    ensures { λ _. ⌜ now (to .exit) ≡ pasted (slice i (i + s) (now (from .entry))) o (now (to .entry)) ⌝ }
-{
-    let mut j = 0;
-    while j < s {
-        to[o + j] = from[i + j];
-        j += 1;
-    }
-}
-
-fn copy_numbers(from: &[u32], i: usize, s: usize, to: &mut [u32], o: usize)
-    requires { ⌜ (i + s ≤ length (now from)) × (o + s ≤ length (now to)) ⌝ }
-    ensures { λ _. ⌜ now (to .exit) ≡ pasted (slice i (i + s) (now (from .entry))) o (now (to .entry)) ⌝ }
-{
-    let mut j = 0;
-    while j < s {
-        to[o + j] = from[i + j];
-        j += 1;
-    }
-}
-
-fn copy_signed(from: &[i32], i: usize, s: usize, to: &mut [i32], o: usize)
-    requires { ⌜ (i + s ≤ length (now from)) × (o + s ≤ length (now to)) ⌝ }
-    ensures { λ _. ⌜ now (to .exit) ≡ pasted (slice i (i + s) (now (from .entry))) o (now (to .entry)) ⌝ }
-{
-    let mut j = 0;
-    while j < s {
-        let x = runs::at(from, i + j);
-        to[o + j] = x;
-        j += 1;
-    }
-}
-
-// Copies the `s` records that come from the `k`-th on in the order of the work, to the places from the `at`-th of `m` on. Each column is copied for itself: the compiler then copies many numbers at once.
-pub fn keep(
-    rtl: bool,
-    k: usize,
-    s: usize,
-    glyphs: &[u32],
-    widths: &[i32],
-    categories: &[u8],
-    ignorables: &[u8],
-    actions: &[u8],
-    advances: &[i32],
-    offsets: &[i32],
-    m: usize,
-    at: usize,
-    to_glyphs: &mut [u32],
-    to_widths: &mut [i32],
-    to_categories: &mut [u8],
-    to_ignorables: &mut [u8],
-    to_actions: &mut [u8],
-    to_advances: &mut [i32],
-    to_offsets: &mut [i32],
-)
-    requires { ⌜ (k + s ≤ length (now actions)) × (at + s ≤ m) ⌝ }
-    requires { ⌜ EvenLine (columns (now glyphs) (now widths) (now categories) (now ignorables) (now actions) (now advances) (now offsets)) ⌝ }
-    requires { ⌜ Roomy m (columns (now «to_glyphs») (now «to_widths») (now «to_categories») (now «to_ignorables») (now «to_actions») (now «to_advances») (now «to_offsets»)) ⌝ }
-    ensures { λ _. ⌜ columns (now («to_glyphs» .exit)) (now («to_widths» .exit)) (now («to_categories» .exit)) (now («to_ignorables» .exit)) (now («to_actions» .exit)) (now («to_advances» .exit)) (now («to_offsets» .exit))
-        ≡ laid rtl m at (take s (drop k (work rtl (columns (now (glyphs .entry)) (now (widths .entry)) (now (categories .entry)) (now (ignorables .entry)) (now (actions .entry)) (now (advances .entry)) (now (offsets .entry))))))
-        (columns (now («to_glyphs» .entry)) (now («to_widths» .entry)) (now («to_categories» .entry)) (now («to_ignorables» .entry)) (now («to_actions» .entry)) (now («to_advances» .entry)) (now («to_offsets» .entry))) ⌝ }
-{
-    let i = runs::part(rtl, actions.len(), k, s);
-    let o = runs::part(rtl, m, at, s);
-    copy_numbers(glyphs, i, s, to_glyphs, o);
-    copy_signed(widths, i, s, to_widths, o);
-    copy_bytes(categories, i, s, to_categories, o);
-    copy_bytes(ignorables, i, s, to_ignorables, o);
-    copy_bytes(actions, i, s, to_actions, o);
-    copy_signed(advances, i, s, to_advances, o);
-    copy_signed(offsets, i, s, to_offsets, o);
-}
 
 // Where the next tile starts, once one of this width is placed that overlaps by so much.
 fn moved(rtl: bool, x: i32, width: i32, lap: i32) -> i32
@@ -169,7 +91,7 @@ fn times_of(action: u8, copies: usize) -> usize
 }
 
 // Places the run whose records come from the `k`-th on, from the `at`-th place of `m` on; says which place comes then.
-fn place_run(
+pub fn place_run(
     rtl: bool,
     k: usize,
     run: Measured,
@@ -236,83 +158,4 @@ fn place_run(
         i += 1;
     }
     next
-}
-
-// The whole work: the records before a run are kept, the run is placed, and so on to the end. The stretched line has `m` records.
-pub fn write(
-    rtl: bool,
-    glyphs: &[u32],
-    widths: &[i32],
-    categories: &[u8],
-    ignorables: &[u8],
-    actions: &[u8],
-    advances: &[i32],
-    offsets: &[i32],
-    m: usize,
-    to_glyphs: &mut [u32],
-    to_widths: &mut [i32],
-    to_categories: &mut [u8],
-    to_ignorables: &mut [u8],
-    to_actions: &mut [u8],
-    to_advances: &mut [i32],
-    to_offsets: &mut [i32],
-)
-    requires { ⌜ (length (now actions) ≤ lineLimit) × (atMost repeating (now actions) ≡ true) ⌝ }
-    requires { ⌜ EvenLine (columns (now glyphs) (now widths) (now categories) (now ignorables) (now actions) (now advances) (now offsets)) ⌝ }
-    requires { ⌜ m ≡ length (worked rtl false (work rtl (columns (now glyphs) (now widths) (now categories) (now ignorables) (now actions) (now advances) (now offsets)))) ⌝ }
-    requires { ⌜ Roomy m (columns (now «to_glyphs») (now «to_widths») (now «to_categories») (now «to_ignorables») (now «to_actions») (now «to_advances») (now «to_offsets»)) ⌝ }
-    ensures { λ _. ⌜ columns (now («to_glyphs» .exit)) (now («to_widths» .exit)) (now («to_categories» .exit)) (now («to_ignorables» .exit)) (now («to_actions» .exit)) (now («to_advances» .exit)) (now («to_offsets» .exit))
-        ≡ laid rtl m 0 (worked rtl false (work rtl (columns (now (glyphs .entry)) (now (widths .entry)) (now (categories .entry)) (now (ignorables .entry)) (now (actions .entry)) (now (advances .entry)) (now (offsets .entry)))))
-        (columns (now («to_glyphs» .entry)) (now («to_widths» .entry)) (now («to_categories» .entry)) (now («to_ignorables» .entry)) (now («to_actions» .entry)) (now («to_advances» .entry)) (now («to_offsets» .entry))) ⌝ }
-{
-    let n = actions.len();
-    let mut at = 0;
-    let mut k = 0;
-    while k < n {
-        let next = runs::next_run(rtl, k, actions);
-        let s = next - k;
-        keep(
-            rtl,
-            k,
-            s,
-            glyphs,
-            widths,
-            categories,
-            ignorables,
-            actions,
-            advances,
-            offsets,
-            m,
-            at,
-            to_glyphs,
-            to_widths,
-            to_categories,
-            to_ignorables,
-            to_actions,
-            to_advances,
-            to_offsets,
-        );
-        let run = runs::measured_at(rtl, next, widths, categories, ignorables, actions, advances);
-        let past = run.past;
-        at = place_run(
-            rtl,
-            next,
-            run,
-            glyphs,
-            widths,
-            categories,
-            ignorables,
-            actions,
-            m,
-            at + s,
-            to_glyphs,
-            to_widths,
-            to_categories,
-            to_ignorables,
-            to_actions,
-            to_advances,
-            to_offsets,
-        );
-        k = past;
-    }
 }

@@ -1,2 +1,3 @@
 -- The laws of `stretching`.
 -- Assumes nothing.
+pub mod WriteLaws

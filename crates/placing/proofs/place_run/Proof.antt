@@ -11,8 +11,9 @@ use Rattle.fitting.proofs.SignedLaws.{back}
 use Rattle.runs.specs.Records.{columns, recordAt, kept}
 use Rattle.runs.specs.Stretched.{work, runPieces, placed}
 use Rattle.runs.proofs.RecordLaws.{spot-below}
-use Rattle.placing.specs.Laid.{laid, bare, piecesFrom}
-use Rattle.placing.proofs.LaidLaws.{roomy-same}
+use Rattle.laying.specs.Laid.{laid}
+use Rattle.placing.specs.Placed.{bare, piecesFrom}
+use Rattle.laying.proofs.LaidLaws.{roomy-same}
 use Rattle.placing.proofs.RunLaws.{Running, running-starts, running-fits, running-next, running-ends, tile-is}
 use borrow.Author.Needs.{needs}
 use Rattle.placing.proofs.place_run.Statement.{statement}

@@ -9,8 +9,9 @@ use Rattle.fitting.proofs.SignedLaws.{back}
 use Rattle.runs.specs.Records.{columns}
 use Rattle.runs.specs.Stretched.{pieces, placed}
 use Rattle.runs.proofs.RecordLaws.{spot-below}
-use Rattle.placing.specs.Laid.{laid, Roomy, after}
-use Rattle.placing.proofs.LaidLaws.{roomy-same}
+use Rattle.laying.specs.Laid.{laid, Roomy}
+use Rattle.placing.specs.Placed.{after}
+use Rattle.laying.proofs.LaidLaws.{roomy-same}
 use Rattle.placing.proofs.PlaceLaws.{Laying, laying-starts, laying-next, laying-ends}
 use borrow.Author.Needs.{needs}
 use Rattle.placing.proofs.place_tile.Statement.{statement}

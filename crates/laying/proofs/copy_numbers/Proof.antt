@@ -1,11 +1,11 @@
--- `placing::copy_numbers` meets its contract: what is left of the part, pasted, makes the whole.
+-- `laying::copy_numbers` meets its contract: what is left of the part, pasted, makes the whole.
 -- Assumes nothing.
 use mathlib.Core.Path.{refl}
 use Prim.Native.Nat.{_-_}
 use native.Mathlib.Omega.{arith}
-use Rattle.placing.proofs.PasteLaws.{Copying, copying-starts, copying-next, copying-ends}
-use Rattle.placing.proofs.copy_numbers.Statement.{statement}
-use Rattle.placing.proofs.copy_numbers.Tie as tie
+use Rattle.laying.proofs.PasteLaws.{Copying, copying-starts, copying-next, copying-ends}
+use Rattle.laying.proofs.copy_numbers.Statement.{statement}
+use Rattle.laying.proofs.copy_numbers.Tie as tie
 
 abbrev Inv-loop : tie.InvT-loop
 Inv-loop from i s to₀ o j₀ to j = Copying from to₀ i s o j to

@@ -1,15 +1,12 @@
--- Records laid into lent columns: `pasted` a part of a column written over; `laidOn` one column of records laid in the order of the work, from a place on; `laid` all seven; `EvenLine` that a line's columns are of one length, `Roomy` that the output's have room; `bare`, `EvenTiles`, `piecesFrom` the pieces of a run; `after` where the next piece starts.
+-- Records laid into lent columns: `pasted` a part of a column written over; `laidOn` one column of records laid in the order of the work, from a place on; `laid` all seven; `EvenLine` that a line's columns are of one length, `Roomy` that the output's have room.
 -- Assumes nothing.
 use mathlib.Core.Path.{_≡_}
 use mathlib.Core.Bool.{Bool}
-use mathlib.Core.List.{List, [], _∷_, _++_, map}
+use mathlib.Core.List.{List, _++_, map}
 use Prim.Native.Nat.{ℕ, _+_, _≤_}
 use lib.ListN.{length, take, drop}
-use lib.Seq.{slice}
-use lib.IntN.{ℤ}
 use Rattle.runs.specs.Records.{Record, Columns, columns}
-use Rattle.runs.specs.Stretched.{inOrder, work, partOf, Piece, runPieces, next}
-use Rattle.runs.specs.declared.Measured.{Measured}
+use Rattle.runs.specs.Stretched.{inOrder, partOf}
 
 -- a column with a part of it written over, from a place on
 unfoldable pub pasted : {A : Type 0} → List A → ℕ → List A → List A
@@ -48,23 +45,3 @@ pub record Roomy (m : ℕ) (c : Columns) : Type 0 where
   pub forActions : m ≤ length (c .actions)
   pub forAdvances : m ≤ length (c .advances)
   pub forOffsets : m ≤ length (c .offsets)
-
--- a line of which only what copies keep is known: placing a run asks for no more
-abbrev pub bare : List ℕ → List ℤ → List ℕ → List ℕ → List ℕ → Columns
-bare glyphs widths categories ignorables actions = columns glyphs widths categories ignorables actions [] []
-
--- its columns are of one length
-pub record EvenTiles (c : Columns) : Type 0 where
-  pub tileGlyphs : length (c .glyphs) ≡ length (c .actions)
-  pub tileWidths : length (c .widths) ≡ length (c .actions)
-  pub tileCategories : length (c .categories) ≡ length (c .actions)
-  pub tileIgnorables : length (c .ignorables) ≡ length (c .actions)
-
--- the pieces of the run whose records come from the k-th on
-unfoldable pub piecesFrom : Bool → ℕ → Measured → Columns → List Piece
-piecesFrom rtl k run c = runPieces (run .copies) (run .overlap) (slice k (run .past) (work rtl c))
-
--- the offset from which the piece behind these is placed
-unfoldable pub after : Bool → ℤ → List Piece → ℤ
-after rtl x [] = x
-after rtl x (p ∷ ps) = after rtl (next rtl x p) ps

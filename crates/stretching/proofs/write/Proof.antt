@@ -1,4 +1,4 @@
--- `placing::write` meets its contract: what the records still to come become makes the columns what they are to be.
+-- `stretching::write` meets its contract: what the records still to come become makes the columns what they are to be.
 -- Assumes nothing.
 use mathlib.Core.Path.{refl}
 use mathlib.Core.Bool.{false}
@@ -8,11 +8,12 @@ use lib.ListN.{length}
 use Rattle.runs.specs.Records.{columns}
 use Rattle.runs.specs.Stretched.{work, worked}
 use Rattle.runs.specs.Measured.{Even, Lent}
-use Rattle.placing.specs.Laid.{laid, EvenTiles, bare}
-use Rattle.placing.proofs.LaidLaws.{roomy-same}
-use Rattle.placing.proofs.WriteLaws.{Writing, writing-starts, next-fits, past-fits, past-above, kept-fits, room-kept, run-has-room, writing-next, writing-ends}
-use Rattle.placing.proofs.write.Statement.{statement}
-use Rattle.placing.proofs.write.Tie as tie
+use Rattle.laying.specs.Laid.{laid}
+use Rattle.placing.specs.Placed.{EvenTiles, bare}
+use Rattle.laying.proofs.LaidLaws.{roomy-same}
+use Rattle.stretching.proofs.WriteLaws.{Writing, writing-starts, next-fits, past-fits, past-above, kept-fits, room-kept, run-has-room, writing-next, writing-ends}
+use Rattle.stretching.proofs.write.Statement.{statement}
+use Rattle.stretching.proofs.write.Tie as tie
 
 abbrev Inv-loop : tie.InvT-loop
 Inv-loop rtl glyphs widths categories ignorables actions advances offsets m to-glyphs₀ to-widths₀ to-categories₀ to-ignorables₀ to-actions₀ to-advances₀ to-offsets₀ n at₀ k₀ to-glyphs to-widths to-categories to-ignorables to-actions to-advances to-offsets at k =

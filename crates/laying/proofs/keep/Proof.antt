@@ -1,4 +1,4 @@
--- `placing::keep` meets its contract: each column has its part copied to where that comes.
+-- `laying::keep` meets its contract: each column has its part copied to where that comes.
 -- Assumes nothing.
 use mathlib.Core.Path.{_∙_}
 use Prim.Native.Nat.{_+_, _≤_}
@@ -6,10 +6,10 @@ use native.Mathlib.Omega.{arith}
 use lib.ListN.{length}
 use Rattle.runs.specs.Records.{columns}
 use Rattle.runs.proofs.RecordLaws.{part-fits}
-use Rattle.placing.proofs.LaidLaws.{columns-same, copied-part}
+use Rattle.laying.proofs.LaidLaws.{columns-same, copied-part}
 use borrow.Author.Needs.{needs}
-use Rattle.placing.proofs.keep.Statement.{statement}
-use Rattle.placing.proofs.keep.Tie as tie
+use Rattle.laying.proofs.keep.Statement.{statement}
+use Rattle.laying.proofs.keep.Tie as tie
 
 -- both parts are within their columns
 within : (c : tie.After-part2) → (c .before .part .result + c .before .before .before .before .before .before .before .before .before .before .args .s ≤ length (c .before .before .before .before .before .before .before .before .before .before .args .actions .now)) × (c .part2 .result + c .before .before .before .before .before .before .before .before .before .before .args .s ≤ c .before .before .before .before .before .before .before .before .before .before .args .m)

@@ -24,8 +24,9 @@ use Rattle.runs.proofs.RecordLaws.{map-in-order, map-listed, length-work}
 use Rattle.runs.proofs.MeasuredLaws.{past-is, run-fits, plain-fits}
 use Rattle.runs.proofs.CountLaws.{next-is}
 use Rattle.runs.proofs.StretchedLaws.{AtRun, at-run, run-some, worked-skips, worked-at-run, length-placed}
-use Rattle.placing.specs.Laid.{laid, Roomy, bare, piecesFrom}
-use Rattle.placing.proofs.LaidLaws.{laid-none, laid-then, SameLengths, same-lengths, lengths-laid, lengths-then, roomy-same}
+use Rattle.laying.specs.Laid.{laid, Roomy}
+use Rattle.placing.specs.Placed.{bare, piecesFrom}
+use Rattle.laying.proofs.LaidLaws.{laid-none, laid-then, SameLengths, same-lengths, lengths-laid, lengths-then, roomy-same}
 
 -- ---- pieces are of tiles
 -- the number of copies, by the tile

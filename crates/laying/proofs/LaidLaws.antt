@@ -13,8 +13,8 @@ use Rattle.laws.proofs.PartLaws.{take-map, drop-map}
 use Rattle.runs.specs.Records.{Record, Columns, columns, lineOf}
 use Rattle.runs.specs.Stretched.{inOrder, partOf, work}
 use Rattle.runs.proofs.RecordLaws.{length-in-order, order-none, order-one, part-in-order, map-in-order, part-fits, length-line, column-of}
-use Rattle.placing.specs.Laid.{pasted, laidOn, laid, EvenLine, Roomy}
-use Rattle.placing.proofs.PasteLaws.{length-pasted, paste-none, paste-one, paste-behind, paste-before}
+use Rattle.laying.specs.Laid.{pasted, laidOn, laid, EvenLine, Roomy}
+use Rattle.laying.proofs.PasteLaws.{length-pasted, paste-none, paste-one, paste-behind, paste-before}
 
 module _ {A : Type 0} (f : Record → A) (rtl : Bool) (m : ℕ) where
   -- as many elements as records

@@ -1,0 +1,4 @@
+-- The laws of `laying`.
+-- Assumes nothing.
+pub mod PasteLaws
+pub mod LaidLaws

@@ -1,0 +1,3 @@
+-- What the contracts of `laying` cite.
+-- Assumes nothing.
+pub mod Laid

@@ -1,2 +1,4 @@
 -- The laws of `stretching`.
 -- Assumes nothing.
+pub mod StretchingLaws
+pub mod StretchExamples

@@ -7,5 +7,6 @@ pub mod NamedLaws
 pub mod ProgramHolds
 pub mod PartLaws
 pub mod RangeLaws
+pub mod RecordingHolds
 pub mod ReplacingHolds
 pub mod WholeLaws

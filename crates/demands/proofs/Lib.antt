@@ -9,4 +9,6 @@ pub mod PartLaws
 pub mod RangeLaws
 pub mod RecordingHolds
 pub mod ReplacingHolds
+pub mod StretchingHolds
 pub mod WholeLaws
+pub mod WorkedLaws

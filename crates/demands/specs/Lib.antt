@@ -6,3 +6,4 @@ pub mod Marks
 pub mod Program
 pub mod Recording
 pub mod Replacing
+pub mod Stretching

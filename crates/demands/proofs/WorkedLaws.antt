@@ -1,20 +1,19 @@
--- Of the stretched line, as a list of records: its records that are no tiles (`plain-stretched`), what its records keep (`kept-stretched`, `kept-among`), the advances of its tiles (`tiles-still`), a line without tiles (`no-tiles`), and the other direction (`turned-round`);
--- and that the columns of records begin with these records (`records-over`).
+-- Of the stretched line, as a list of records: `Every` that each record has a property (`every-more`, `every-in-order`, `every-at`); its records that are no tiles (`plain-stretched`); what its records keep (`kept-stretched`), and that some record of the line has it (`Among`, `among-stretched`, `among-itself`);
+-- the advances of its tiles (`Still`, `still-stretched`); a line without tiles (`none-stretched`); the other direction (`turned-stretched`); the records that columns begin with (`records-glued`, `getD-listed`).
 -- Assumes nothing.
 use mathlib.Core.Path.{_≡_, refl, sym, ap, ap₂, _∙_}
-use mathlib.Core.Bool.{Bool, true, false, cond, not, true≢false, false≢true}
+use mathlib.Core.Bool.{Bool, true, false, cond, not, true≢false}
 use mathlib.Core.List.{List, [], _∷_, _++_, map, reverse, reverseAux, reverse-reverse}
-use mathlib.Core.Logic.{_⊎_, inl, inr}
-use Prim.Native.Nat.{ℕ, zero, suc, _+_, _<_}
+use Prim.Native.Nat.{ℕ, zero, suc, _<_}
 use native.Mathlib.Omega.{arith}
-use lib.ListN.{length, getD, drop, replicate}
+use lib.ListN.{length, getD, replicate}
 use lib.IntN.{ℤ, pos}
-use Rattle.laws.specs.Lists.{those, front}
+use Rattle.laws.specs.Lists.{those}
 use Rattle.laws.proofs.ListLaws.{those-append}
 use Rattle.letters.specs.Actions.{repeating}
 use Rattle.runs.specs.declared.Tile.{Tile}
-use Rattle.runs.specs.Records.{Record, Columns, columns, columnsOf, recordAt, listed, kept, put}
-use Rattle.runs.specs.Runs.{acts, tileAction, isTile, isPlain, run, pastRun, copiesOf, overlapOf, startOf}
+use Rattle.runs.specs.Records.{Record, Columns, columns, columnsOf, listed, kept, put}
+use Rattle.runs.specs.Runs.{acts, tileAction, isTile, isPlain, run, copiesOf, overlapOf, startOf}
 use Rattle.runs.specs.Stretched.{Piece, piece, pieces, copiesFor, runPieces, inOrder, next, placed, placedRun, worked, stretched}
 use Rattle.runs.proofs.RecordLaws.{blank, order-twice, map-in-order}
 use Rattle.demands.specs.Stretching.{records, times, repeated, unplaced}
@@ -24,10 +23,6 @@ module _ {A B : Type 0} (f : A → B) where
   map-append : (x y : List A) → map f (x ++ y) ≡ map f x ++ map f y
   map-append [] y = refl
   map-append (a ∷ x) y = ap (λ (l : List B). f a ∷ l) (map-append x y)
-
-  map-replicate : (n : ℕ) (a : A) → map f (replicate n a) ≡ replicate n (f a)
-  map-replicate zero a = refl
-  map-replicate (suc n) a = ap (λ (l : List B). f a ∷ l) (map-replicate n a)
 
 module _ {A : Type 0} (p : A → Bool) where
   those-onto : (l r : List A) → those p (reverseAux l r) ≡ reverseAux (those p l) (those p r)
@@ -128,17 +123,20 @@ kept-copies : (n : ℕ) (p : Piece) (ps : List Piece) (rest : List Tile) → rep
 kept-copies zero p ps rest = refl
 kept-copies (suc n) p ps rest = ap (λ (l : List Tile). p .of ∷ l) (kept-copies n p ps rest)
 
+times-copies : (copies : ℕ) (r : Record) → times copies r ≡ suc (copiesFor copies r)
+times-copies copies r = go (acts repeating r) refl
+  where
+    go : (t : Bool) → acts repeating r ≡ t → times copies r ≡ suc (copiesFor copies r)
+    go true e = rw e (omega arith)
+    go false e = rw e
+
 kept-pieces :
     (copies : ℕ) (overlap : ℤ) (r : Record) (ps : List Piece) (rest : List Tile)
     → replicate (times copies r) (kept r) ++ (ofEach ps ++ rest) ≡ ofEach (pieces (copiesFor copies r) overlap (kept r) ++ ps) ++ rest
 unfolding pieces
-kept-pieces copies overlap r ps rest = go (acts repeating r)
-  where
-    go : (t : Bool) → replicate (cond t (1 + copies) 1) (kept r) ++ (ofEach ps ++ rest) ≡ kept r ∷ (ofEach (replicate (cond t copies 0) (piece (kept r) overlap) ++ ps) ++ rest)
-    go true =
-        let more : 1 + copies ≡ suc copies = omega arith in
-        ap (λ (n : ℕ). replicate n (kept r) ++ (ofEach ps ++ rest)) more ∙ ap (λ (l : List Tile). kept r ∷ l) (kept-copies copies (piece (kept r) overlap) ps rest)
-    go false = refl
+kept-pieces copies overlap r ps rest =
+    ap (λ (n : ℕ). replicate n (kept r) ++ (ofEach ps ++ rest)) (times-copies copies r)
+    ∙ ap (λ (l : List Tile). kept r ∷ l) (kept-copies (copiesFor copies r) (piece (kept r) overlap) ps rest)
 
 module _ (rtl : Bool) where
   -- inside a run its tiles are still to come here, and have been placed there

@@ -7,7 +7,7 @@ use mathlib.Core.Bool.{Bool, true, false, cond, not}
 use mathlib.Core.List.{List, [], _∷_, _++_, map, reverse}
 use mathlib.Core.Logic.{_⊎_}
 use Prim.Native.Nat.{ℕ, _+_, _<_, _≤_}
-use lib.ListN.{length, getD, drop, replicate}
+use lib.ListN.{length, drop, replicate}
 use lib.IntN.{pos}
 use Rattle.laws.specs.Lists.{those}
 use Rattle.laws.specs.Rows.{Has}

@@ -5,8 +5,14 @@ use Rattle.shapes.specs.Joining.{form}
 use Rattle.marks.specs.Modifiers.{modifier}
 use Rattle.marks.specs.Passes.{smaller, moves, passes, ranges}
 use Rattle.marks.specs.Reordered.{reorderRefusal}
+use Rattle.fitting.specs.Saturating.{clamped, satAdd, satSub}
+use Rattle.fitting.specs.Fit.{count, whole, added, copies, excess, squeezed, overlap, start}
+use Rattle.runs.specs.Records.{listed, lineOf}
+use Rattle.runs.specs.Runs.{tileAction, wordNumbers, sum, room, repeatingWidth, tiles}
+use Rattle.runs.specs.Stretched.{inOrder, pieces, runPieces, next, offsetAt, placed, placedRun, worked, stretched}
+use Rattle.stretching.specs.Stretching.{stretchRefusal}
 use Rattle.demands.specs.Examples.{Starred}
 
 pub starred : Starred
-unfolding form modifier smaller moves passes ranges reorderRefusal
-starred = (refl, (refl, (refl, (refl, (refl, (refl, (refl, (refl, (refl, (refl, (refl, (refl, (refl, tt)))))))))))))
+unfolding form modifier smaller moves passes ranges reorderRefusal clamped satAdd satSub count whole added copies excess squeezed overlap start listed lineOf tileAction wordNumbers sum room repeatingWidth tiles inOrder pieces runPieces next offsetAt placed placedRun worked stretched stretchRefusal
+starred = (refl, (refl, (refl, (refl, (refl, (refl, (refl, (refl, (refl, (refl, (refl, (refl, (refl, (refl, (refl, tt)))))))))))))))

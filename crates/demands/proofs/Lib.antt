@@ -7,5 +7,8 @@ pub mod NamedLaws
 pub mod ProgramHolds
 pub mod PartLaws
 pub mod RangeLaws
+pub mod RecordingHolds
 pub mod ReplacingHolds
+pub mod StretchingHolds
 pub mod WholeLaws
+pub mod WorkedLaws

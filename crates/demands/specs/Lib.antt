@@ -4,4 +4,6 @@ pub mod Examples
 pub mod Joining
 pub mod Marks
 pub mod Program
+pub mod Recording
 pub mod Replacing
+pub mod Stretching

@@ -1,3 +1,5 @@
--- The laws of `stretching`.
+-- The laws of `stretching`, and worked examples.
 -- Assumes nothing.
+pub mod StretchingLaws
+pub mod StretchExamples
 pub mod WriteLaws

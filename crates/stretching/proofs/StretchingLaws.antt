@@ -1,0 +1,113 @@
+-- What is known of the call: an answer is known by its number and by the length that it says (`same-answer`); two that the statement allows are equal, and leave the same (`one-answer`); what a refused call leaves
+-- (`refused-left`), and an accepted one (`accepted-left`); a request that is not refused (`Room`, `Allowed`, `allowed`).
+-- Assumes nothing.
+use mathlib.Core.Path.{_≡_, sym, ap}
+use mathlib.Core.Bool.{false, not, _&&_}
+use mathlib.Core.List.{[], _∷_}
+use Prim.Native.Nat.{ℕ, _≤_}
+use borrow.Author.Tests.{ltb-false}
+use lib.Dec.{ltb}
+use lib.ListN.{length}
+use Rattle.laws.specs.Rows.{Given}
+use Rattle.laws.proofs.RowLaws.{first-none}
+use Rattle.laws.proofs.TestLaws.{neither}
+use Rattle.refusals.specs.Columns.{lineLimit, atMost}
+use Rattle.refusals.specs.declared.Verdict.the-variants.{Refused}
+use Rattle.refusals.proofs.VerdictLaws.{same-said, refused-number}
+use Rattle.refusals.proofs.LeftLaws.{alike, left-number, left-stays, left-accepted}
+use Rattle.letters.specs.Categories.{Zs}
+use Rattle.letters.specs.Actions.{repeating}
+use Rattle.runs.specs.Records.{Columns}
+use Rattle.stretching.specs.declared.Answer.{Answer}
+use Rattle.stretching.specs.declared.Answer.the-variants.{Stretched}
+use Rattle.stretching.specs.Stretching.{stretchedLimit, Request, Outcome, outcome, newLine, laidOver, unequal, shorter, stretchRefusal, numberSaid, lengthSaid, stretchAfter, Stretching}
+
+-- ---- an answer is known by what it says
+pub same-answer : (r u : Answer) → numberSaid r ≡ numberSaid u → lengthSaid r ≡ lengthSaid u → r ≡ u
+same-answer (Stretched n) (Stretched m) e f = ap Stretched f
+same-answer (Stretched n) (Answer.Refused k) e f = absurd (refused-number k (sym e))
+same-answer (Answer.Refused k) (Stretched n) e f = absurd (refused-number k e)
+same-answer (Answer.Refused k) (Answer.Refused l) e f =
+    let v = same-said (Refused k) (Refused l) e in
+    let same : k ≡ l = cc in
+    ap Answer.Refused same
+
+-- any two answers that the statement allows are equal, and leave the same output
+pub one-answer : (q : Request) (output : Columns) (r u : Answer) (left other : Columns) → Stretching q output r left → Stretching q output u other → (r ≡ u) × (left ≡ other)
+one-answer q output r u left other x y =
+    let g = alike _ _ _ _ (stretchAfter stretchedLimit q output) x y in
+    (same-answer r u (g .0) (ap (λ (o : Outcome). o .count) (g .1)), ap (λ (o : Outcome). o .output) (g .1))
+
+-- ---- what a call leaves that is refused, and one that is not
+module _ (q : Request) (output : Columns) (r : Answer) (left : Columns) (x : Stretching q output r left) where
+  abbrev old : Outcome
+  old = outcome 0 output
+
+  abbrev new : Outcome
+  new = outcome (length (newLine q)) (laidOver (newLine q) output)
+
+  pub number-given : numberSaid r ≡ stretchRefusal stretchedLimit q output
+  number-given = left-number (stretchRefusal stretchedLimit q output) old new (numberSaid r) (outcome (lengthSaid r) left) x
+
+  pub refused-left : (numberSaid r ≡ 0 → ⊥) → (left ≡ output) × (lengthSaid r ≡ 0)
+  refused-left d =
+      let g = left-stays (stretchRefusal stretchedLimit q output) old new (numberSaid r) (outcome (lengthSaid r) left) x d in
+      (ap (λ (o : Outcome). o .output) g, ap (λ (o : Outcome). o .count) g)
+
+  pub accepted-left : numberSaid r ≡ 0 → (left ≡ laidOver (newLine q) output) × (lengthSaid r ≡ length (newLine q))
+  accepted-left z =
+      let g = left-accepted (stretchRefusal stretchedLimit q output) old new (numberSaid r) (outcome (lengthSaid r) left) x z in
+      (ap (λ (o : Outcome). o .output) g, ap (λ (o : Outcome). o .count) g)
+
+-- ---- a request that is not refused
+-- an output whose columns have n places each, or more
+pub record Room (n : ℕ) (c : Columns) : Type 0 where
+  pub glyphs-fit : n ≤ length (c .glyphs)
+  pub widths-fit : n ≤ length (c .widths)
+  pub categories-fit : n ≤ length (c .categories)
+  pub ignorables-fit : n ≤ length (c .ignorables)
+  pub actions-fit : n ≤ length (c .actions)
+  pub advances-fit : n ≤ length (c .advances)
+  pub offsets-fit : n ≤ length (c .offsets)
+
+has-room : (n : ℕ) (c : Columns) → shorter n c ≡ false → Room n c
+has-room n c z =
+    let a = neither (ltb (length (c .glyphs)) n) _ z in
+    let b = neither (ltb (length (c .widths)) n) _ (a .1) in
+    let d = neither (ltb (length (c .categories)) n) _ (b .1) in
+    let e = neither (ltb (length (c .ignorables)) n) _ (d .1) in
+    let f = neither (ltb (length (c .actions)) n) _ (e .1) in
+    let g = neither (ltb (length (c .advances)) n) _ (f .1) in
+    record {
+      glyphs-fit = ltb-false _ n (a .0);
+      widths-fit = ltb-false _ n (b .0);
+      categories-fit = ltb-false _ n (d .0);
+      ignorables-fit = ltb-false _ n (e .0);
+      actions-fit = ltb-false _ n (f .0);
+      advances-fit = ltb-false _ n (g .0);
+      offsets-fit = ltb-false _ n (g .1);
+    }
+
+-- of the rows that stretching uses, none applies
+pub record Allowed (q : Request) (output : Columns) : Type 0 where
+  pub few : length (q .line .actions) ≤ lineLimit
+  pub not-over : length (newLine q) ≤ stretchedLimit
+  pub room : Room (length (newLine q)) output
+
+pub allowed : (q : Request) (output : Columns) → stretchRefusal stretchedLimit q output ≡ 0 → Allowed q output
+unfolding stretchRefusal
+allowed q output z =
+    let n = length (newLine q) in
+    let strange = not (atMost Zs (q .line .categories) && atMost repeating (q .line .actions)) in
+    let eight = Given 8 (shorter n output) ∷ [] in
+    let six = Given 6 (ltb stretchedLimit n) ∷ eight in
+    let three = Given 3 strange ∷ six in
+    let uneven-not = first-none 0 (unequal (q .line)) (Given 2 (ltb lineLimit (length (q .line .actions))) ∷ three) z in
+    let long-not = first-none 1 (ltb lineLimit (length (q .line .actions))) three (uneven-not .1) in
+    let strange-not = first-none 2 strange six (long-not .1) in
+    let over-not = first-none 5 (ltb stretchedLimit n) eight (strange-not .1) in
+    record {
+      few = ltb-false lineLimit (length (q .line .actions)) (long-not .0);
+      not-over = ltb-false stretchedLimit n (over-not .0);
+      room = has-room n output (first-none 7 (shorter n output) [] (over-not .1) .0);
+    }

@@ -72,7 +72,7 @@ fn sample(cases: &mut Cases) {
     let draw = &mut Draw::new(6);
     examples(cases, draw);
     every_line(cases, draw, 2);
-    cut_words(cases, draw, 4);
+    cut_words(cases, draw, 8);
     for _ in 0..100 {
         let length = draw.between(0, 12);
         random(cases, draw, length, 30);
@@ -82,7 +82,7 @@ fn sample(cases: &mut Cases) {
 fn fresh(cases: &mut Cases, draw: &mut Draw, count: u64) {
     examples(cases, draw);
     every_line(cases, draw, EVERY_LINE);
-    cut_words(cases, draw, 1);
+    cut_words(cases, draw, 2);
     full(cases, draw);
     for i in 0..count {
         let length = lines::any_length(draw);
@@ -275,7 +275,7 @@ fn every_line(cases: &mut Cases, draw: &mut Draw, most: usize) {
 fn cut_words(cases: &mut Cases, draw: &mut Draw, step: usize) {
     let (letter, tile) = (known(10, LO, NONE), known(4, CF, REPEATING));
     for category in 0..lines::CATEGORIES {
-        for action in (0..=NONE).step_by(step * 2) {
+        for action in (0..=NONE).step_by(step) {
             for (ignorable, rtl) in [(0, false), (0, true), (1, false), (255, true)] {
                 let cut = Record { category, ignorable, action, advance: 9, ..known(2, 0, NONE) };
                 write(cases, draw, true, rtl, &[tile, letter, cut, letter, tile], STRETCHED_LIMIT);

@@ -1,10 +1,9 @@
 -- `columns::signed` meets its contract: the lower half of the bits is its own number, the upper half one that is less by 2 ^ 32.
 -- Assumes nothing.
-use mathlib.Core.Path.{_≡_}
-use native.Mathlib.Omega.{arith}
+use mathlib.Core.Path.{sym, subst}
 use borrow.Author.Needs.{needs}
-use mir.Syntax.{w32, w64}
-use mir.Val.{SFits, toZ}
+use mir.Syntax.{w64}
+use mir.Val.{SFits}
 use mir.Facts.{toZ-ofZ, sfits-toZ, sfits-widen}
 use Rattle.columns.proofs.SignedLaws.{upper-half}
 use Rattle.columns.proofs.signed.Statement.{statement}
@@ -20,7 +19,7 @@ cast-result-2 : tie.Need-cast-result-2
 cast-result-2 c = search needs
 
 sub-result : tie.Need-sub-result
-sub-result c = rw (upper-half _ (c .if1 .left) (c .before .fits .bits)) (sfits-widen tt (sfits-toZ (c .before .fits .bits)))
+sub-result c = subst (SFits w64) (sym (upper-half _ (c .if1 .left) (c .before .fits .bits))) (sfits-widen tt (sfits-toZ (c .before .fits .bits)))
 
 cast-result-3 : tie.Need-cast-result-3
 cast-result-3 c =

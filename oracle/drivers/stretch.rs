@@ -8,7 +8,7 @@
 //! itself, and what lies behind the answer must stay.
 //!
 //! Left out, and counted: lines whose answer has over 16,384 records, which the port refuses, and lines where the Rust's copies times tiles, an i32, may
-//! overflow (`may_overflow`). They are drawn again, so that as many lines are compared as were asked for.
+//! overflow (`may_overflow`), which the port refuses, too. They are drawn again, so that as many lines are compared as were asked for.
 //!
 //! Always: HarfBuzz's own three tests and document 01's worked examples, with the offsets that are written there, to which the Rust is held, too; every line
 //! of up to five records of seven kinds, in both directions; words cut by each category, ignorable or not; lines and answers that are full.
@@ -143,17 +143,33 @@ fn view(rtl: bool, line: &[Record]) -> Vec<Record> {
     if rtl { line.iter().rev().copied().collect() } else { line.to_vec() }
 }
 
-/// Whether copies times tiles may pass 31 bits. There are at most room / w copies, and room has 31 bits: so w is below the number of tiles, of which a
-/// line has at most 2 ^ 12, and room is at least 2 ^ 19.
+/// Each run of a line in the order of the work, with the word behind it: where the run begins, where it ends, where the word ends.
+fn runs(work: &[Record]) -> Vec<(usize, usize, usize)> {
+    let mut runs = vec![];
+    let mut at = 0;
+    while at < work.len() {
+        let run = at + work[at..].iter().take_while(|r| r.in_run()).count();
+        let word = run + work[run..].iter().take_while(|r| r.in_word()).count();
+        if run > at {
+            runs.push((at, run, word));
+        }
+        at = word.max(at + 1);
+    }
+    runs
+}
+
+/// Whether a run's copies times its tiles may pass 31 bits, in which the Rust counts them: there are at most room / w copies. Such a line has far more
+/// than 16,384 records, and the port refuses it.
 fn may_overflow(rtl: bool, line: &[Record]) -> bool {
-    let all: i64 = line.iter().map(|r| i64::from(r.width).abs() + i64::from(r.advance).abs()).sum();
-    all >= 1 << 19
-        && view(rtl, line).chunk_by(|a, b| a.in_run() && b.in_run()).any(|run| {
-            let repeating = run.iter().filter(|r| r.action == REPEATING);
-            let tiles = repeating.clone().count() as i32;
-            let w = repeating.fold(0i32, |sum, r| sum.saturating_add(r.width));
-            0 < w && w < tiles
-        })
+    let work = view(rtl, line);
+    let sum = |records: &[Record], of: fn(&Record) -> i32| records.iter().fold(0i32, |sum, r| sum.saturating_add(of(r)));
+    runs(&work).into_iter().any(|(at, run, word)| {
+        let tiles = work[at..run].iter().filter(|r| r.action == REPEATING).count() as i64;
+        let fixed = sum(&work[at..run], |r| if r.action == FIXED { r.width } else { 0 });
+        let w = sum(&work[at..run], |r| if r.action == REPEATING { r.width } else { 0 });
+        let room = sum(&work[run..word], |r| r.advance).saturating_sub(fixed);
+        w > 0 && i64::from(room / w) * tiles > i64::from(i32::MAX)
+    })
 }
 
 /// A case of a line, unless it is one to leave out or its answer has more than `most` records. The Rust refuses nothing, so its number is 0.
@@ -403,22 +419,18 @@ fn fit(draw: &mut Draw, rtl: bool, line: &mut [Record]) {
         line.reverse();
     }
     let sum = |records: &[Record], of: fn(&Record) -> i64| records.iter().map(of).sum::<i64>();
-    let mut at = 0;
-    while at < line.len() {
-        let run = line[at..].iter().take_while(|r| r.in_run()).count();
-        let word = line[at + run..].iter().take_while(|r| r.in_word()).count();
-        let tiles = &line[at..at + run];
-        let fixed = sum(tiles, |r| if r.action == FIXED { r.width.into() } else { 0 });
-        let w = sum(tiles, |r| if r.action == REPEATING { r.width.into() } else { 0 });
-        if run > 0 && word > 0 {
-            let place = at + run + draw.below(word);
-            let others = sum(&line[at + run..at + run + word], |r| r.advance.into()) - i64::from(line[place].advance);
-            let room = w * draw.between(0, 6) as i64 + draw.one_of(&[0, 0, 0, 1, -1]);
-            if let Ok(advance) = i32::try_from(room + fixed - others) {
-                line[place].advance = advance;
-            }
+    for (at, run, word) in runs(line) {
+        if word == run {
+            continue;
         }
-        at += (run + word).max(1);
+        let fixed = sum(&line[at..run], |r| if r.action == FIXED { r.width.into() } else { 0 });
+        let w = sum(&line[at..run], |r| if r.action == REPEATING { r.width.into() } else { 0 });
+        let place = draw.between(run, word - 1);
+        let others = sum(&line[run..word], |r| r.advance.into()) - i64::from(line[place].advance);
+        let room = w * draw.between(0, 6) as i64 + draw.one_of(&[0, 0, 0, 1, -1]);
+        if let Ok(advance) = i32::try_from(room + fixed - others) {
+            line[place].advance = advance;
+        }
     }
     if rtl {
         line.reverse();

@@ -1,12 +1,17 @@
 """Document 01's rules as the models of tools/ have them, written apart from the code: types, the resolving of X, joining by neighbours, the
-actions of selectors, masks, what replacing a letter alters, and the reordering of marks."""
+actions of selectors, masks, what replacing a letter alters, the reordering of marks, recording for stretching, and stretching."""
+
+import collections
 
 U, L, R, D, ALAPH, DALATH_RISH, T, X = range(8)
 ISOL, FINA, FIN2, FIN3, MEDI, MED2, INIT, NONE, FIXED, REPEATING = range(10)
 NAMES = "isol fina fin2 fin3 medi med2 init none fixed repeating".split()
-CF, LO, ME, MN = 1, 7, 11, 12
+CATEGORIES = "Cc Cf Cn Co Cs Ll Lm Lo Lt Lu Mc Me Mn Nd Nl No Pc Pd Pe Pf Pi Po Ps Sc Sk Sm So Zl Zp Zs".split()  # by their numbers
+CF, LO, ME, MN, ND, PO, ZS = map(CATEGORIES.index, "Cf Lo Me Mn Nd Po Zs".split())
+OF_WORDS = [CATEGORIES.index(name) for name in "Cn Co Lm Lo Mc Me Mn Nd Nl No Sc Sk Sm So".split()]
 SELECTORS = (0x180B, 0x180C, 0x180D, 0x180F)
 MODIFIERS = (0x654, 0x655, 0x658, 0x6DC, 0x6E3, 0x6E7, 0x6E8, 0x8CA, 0x8CB, 0x8CD, 0x8CE, 0x8CF, 0x8D3, 0x8F3)  # the source's list of 14 codes
+STRETCHED_LIMIT = 16384
 LINE_LIMIT, CONTEXT_LIMIT, LAST_TYPE, LAST_CATEGORY, LAST_ACTION = 4096, 64, 7, 29, 9
 
 
@@ -105,3 +110,109 @@ def reordered(codes, classes, start, end, lent):
             ranges += [start, behind]
             start += len(block)  # "start advances past them"
     return ranges, [code for code, _ in marks], [number for _, number in marks]
+
+
+def recorded(mask, multiplied, components, actions):
+    """Whether any was recorded, and the actions afterwards."""
+    if not mask or not any(multiplied):  # "Without a stch mask, or without a multiplied record, nothing happens."
+        return False, list(actions)
+    # "each multiplied record repeating if its component number is odd, else fixed"
+    return True, [(REPEATING if component % 2 else FIXED) if yes else old for yes, component, old in zip(multiplied, components, actions)]
+
+
+Record = collections.namedtuple("Record", "glyph width category ignorable action advance offset")
+Run = collections.namedtuple("Run", "start end copies overlap offset")  # its places in the order of the work; "Offsets start at" its offset
+
+
+def saturated(number):
+    return max(-(2**31), min(2**31 - 1, number))
+
+
+def saturated_sum(numbers):
+    """ "All sums saturate in 32 bits", at each step."""
+    total = 0
+    for number in numbers:
+        total = saturated(total + number)
+    return total
+
+
+def quotient(number, by):
+    """Towards zero."""
+    return abs(number) // by if number >= 0 else -(abs(number) // by)
+
+
+def in_run(record):
+    return record.action in (FIXED, REPEATING)
+
+
+def in_word(record):
+    """ "records that are not 8 or 9 and are default-ignorable or of category ..": "In a yes-or-no column 0 is no"."""
+    return not in_run(record) and (record.ignorable != 0 or record.category in OF_WORDS)
+
+
+def work_of(line, rtl):
+    """The line in the order of the work, which goes from the end; where it is not right to left, the line is reversed before."""
+    return line[::-1] if rtl else line[:]
+
+
+def span(work, at, belongs):
+    """The place behind the longest stretch from a place on."""
+    while at < len(work) and belongs(work[at]):
+        at += 1
+    return at
+
+
+def fitted(room, w, tiles):
+    """The copies of each tile, their overlap, and where offsets start. Products are exact."""
+    copies, overlap = 0, 0
+    if room > w and w > 0:
+        copies = room // w - 1
+    if room > w * (copies + 1) and tiles:  # "one copy is added; then, if (copies + 1) x w exceeds room"
+        copies += 1
+        excess = (copies + 1) * w - room
+        if excess > 0:
+            overlap = excess // (copies * tiles)
+            room = 0
+    return copies, overlap, quotient(room, 2)
+
+
+def runs_of(work):
+    """ "on each longest run of actions 8 and 9", with the word before it, which is behind it in the order of the work."""
+    at = 0
+    while (at := span(work, at, lambda record: not in_run(record))) < len(work):
+        end = span(work, at, in_run)
+        advances = saturated_sum(record.advance for record in work[end : span(work, end, in_word)])
+        fixed = saturated_sum(record.width for record in work[at:end] if record.action == FIXED)
+        repeating = [record.width for record in work[at:end] if record.action == REPEATING]
+        room = saturated(advances - fixed)  # "Room is the word's advances less the fixed widths."
+        yield Run(at, end, *fitted(room, saturated_sum(repeating), len(repeating)))
+        at = end
+
+
+def stretched_length(line, rtl):
+    """ "The count of records added equals copies x tiles summed over the runs." """
+    work = work_of(line, rtl)
+    return len(work) + sum(run.copies for run in runs_of(work) for record in work[run.start : run.end] if record.action == REPEATING)
+
+
+def placed(run, records, rtl):
+    """The records of a run with their copies, in the order of the work."""
+    x = run.offset
+    for record in records:
+        for copy in range(1 + (run.copies if record.action == REPEATING else 0)):
+            overlap = run.overlap if copy else 0  # "for a copy": every placement of a tile but the first
+            if rtl:  # "each record first subtracts its width and, for a copy, adds the overlap"
+                x = saturated(saturated(x - record.width) + overlap)
+            yield record._replace(advance=0, offset=x)  # "Run records get advance 0."
+            if not rtl:  # "once a record is placed its width is added and, for a copy, the overlap subtracted"
+                x = saturated(saturated(x + record.width) - overlap)
+
+
+def stretched(line, rtl):
+    """The line afterwards."""
+    work, done, at = work_of(line, rtl), [], 0
+    for run in runs_of(work):
+        done += work[at : run.start]
+        done += placed(run, work[run.start : run.end], rtl)
+        at = run.end
+    return work_of(done + work[at:], rtl)

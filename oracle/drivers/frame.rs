@@ -63,11 +63,12 @@ pub struct Cases {
     out: BufWriter<StdoutLock<'static>>,
     cases: u64,
     bytes: u64,
+    left_out: u64,
 }
 
 impl Cases {
     fn new(driver: &'static str) -> Self {
-        Self { driver, out: BufWriter::new(io::stdout().lock()), cases: 0, bytes: 0 }
+        Self { driver, out: BufWriter::new(io::stdout().lock()), cases: 0, bytes: 0, left_out: 0 }
     }
     pub fn write(&mut self, case: Case) {
         let done = self.out.write_all(&size(case.body.len())).and_then(|()| self.out.write_all(&case.body));
@@ -75,11 +76,16 @@ impl Cases {
         self.cases += 1;
         self.bytes += 4 + case.body.len() as u64;
     }
+    /// Counts an input that is no case, since the Rust's answer is one that the port is not to give.
+    pub fn leave_out(&mut self) {
+        self.left_out += 1;
+    }
     /// Says how many cases there were: whoever replays them must have counted as many.
     fn finish(mut self) {
         let done = self.out.flush();
         self.stop_on_error(done);
-        eprintln!("{}: {} cases, {} bytes", self.driver, self.cases, self.bytes);
+        let left_out = if self.left_out > 0 { format!(", {} left out", self.left_out) } else { String::new() };
+        eprintln!("{}: {} cases, {} bytes{left_out}", self.driver, self.cases, self.bytes);
     }
     /// A program that finds a case unreadable ends, and its pipe with it: that is no fault of the driver's to show.
     fn stop_on_error(&self, done: io::Result<()>) {

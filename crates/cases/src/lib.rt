@@ -1,7 +1,10 @@
 // A case's columns, as a program uses them: compared at the cursor with what a call gave, or read as one number. They are
 // taken by the crate `columns`; bytes are compared by the kit's own function.
 ghost use mathlib.Core.Path.{_≡_};
+ghost use mathlib.Core.List.{map};
 ghost use lib.ListN.{getD};
+ghost use mir.Syntax.{w32};
+ghost use mir.Val.{ofZ};
 ghost use Rattle.cases.specs.Comparing.{Compare, comparedAt};
 ghost use Rattle.cases.specs.Singles.{flag};
 
@@ -46,6 +49,27 @@ pub fn same_u32(body: &[u8], at: &mut usize, got: &[u32]) -> bool
     let mut i: usize = 0;
     while i < count {
         if columns::u32_at(body, k) != got[i] {
+            return false;
+        }
+        k += 4;
+        i += 1;
+    }
+    true
+}
+
+pub fn same_i32(body: &[u8], at: &mut usize, got: &[i32]) -> bool
+    ensures { λ r. ⌜ Compare r (now (at .exit)) ≡ comparedAt (now (body .entry)) 4 (map (ofZ w32) (now (got .entry))) (now (at .entry)) ⌝ }
+{
+    let s = columns::find(body, *at, 4, body.len());
+    *at = s.next;
+    let count = s.count;
+    if count != got.len() {
+        return false;
+    }
+    let mut k = s.from;
+    let mut i: usize = 0;
+    while i < count {
+        if columns::signed(columns::u32_at(body, k)) != got[i] {
             return false;
         }
         k += 4;

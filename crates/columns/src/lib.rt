@@ -2,10 +2,14 @@
 //
 // A column that is not of the form, cut short or too long is taken as an empty one, and the cursor is then past every body: from
 // there on every column is empty, so that a caller looks at the cursor once, at the end. Bytes are copied by the kit's own function;
-// wider elements are put together here, one loop for each width, and one law over the width behind them.
+// wider elements are put together here, one loop for each width, and one law over the width behind them. A column of signed numbers
+// has their bits.
 ghost use mathlib.Core.Path.{_≡_};
+ghost use mathlib.Core.List.{map};
 ghost use Prim.Native.Nat.{_+_, _-_, _<_};
 ghost use lib.ListN.{length, getD};
+ghost use mir.Syntax.{w32};
+ghost use mir.Val.{toZ, ofZ};
 ghost use Rattle.columns.specs.Form.{numberAt, spanAt, Took, columnAt};
 
 // Where the elements of a column lie, how many they are, and where the next column starts.
@@ -123,6 +127,33 @@ pub fn take_u32<'a>(body: &[u8], at: &mut usize, out: &'a mut [u32]) -> &'a mut 
     let mut i: usize = 0;
     while i < count {
         out[i] = u32_at(body, k);
+        k += 4;
+        i += 1;
+    }
+    &mut out[..count]
+}
+
+// The signed number that has these bits.
+pub fn signed(bits: u32) -> i32
+    ensures { λ r. ⌜ r ≡ toZ w32 bits ⌝ }
+{
+    if bits < 2147483648 {
+        return bits as i32;
+    }
+    ((bits as i64) - 4294967296) as i32
+}
+
+pub fn take_i32<'a>(body: &[u8], at: &mut usize, out: &'a mut [i32]) -> &'a mut [i32]
+    ensures { λ r. ⌜ Took (map (ofZ w32) (now r)) (now (at .exit)) ≡ columnAt (now (body .entry)) 4 (length (now (out .entry))) (now (at .entry)) ⌝ }
+{
+    let s = find(body, *at, 4, out.len());
+    *at = s.next;
+    let count = s.count;
+    let mut k = s.from;
+    let mut i: usize = 0;
+    while i < count {
+        let x = signed(u32_at(body, k));
+        out[i] = x;
         k += 4;
         i += 1;
     }

@@ -54,6 +54,9 @@ pub mod probe {
     pub fn set_mask(b: &mut Buffer, i: usize, m: u32) { b.info[i].mask = m }
     pub fn set_code(b: &mut Buffer, i: usize, c: u32) { b.info[i].glyph_id = c }
     pub fn set_props(b: &mut Buffer, i: usize, gc: u8, ign: bool) { b.info[i].set_unicode_props(u16::from(gc) | if ign { 0x20 } else { 0 }) }
+    pub fn categories(b: &Buffer) -> Vec<u8> { b.glyph_infos().iter().map(|i| i.general_category().0).collect() }
+    pub fn ignorables(b: &Buffer) -> Vec<bool> { b.glyph_infos().iter().map(|i| i.is_default_ignorable()).collect() }
+    pub fn components(b: &Buffer) -> Vec<u8> { b.glyph_infos().iter().map(|i| i.lig_comp()).collect() }
     pub fn set_class(b: &mut Buffer, i: usize, cc: u8) { b.info[i].set_unicode_props(12 | (u16::from(cc) << 8)) }
     pub fn classes(b: &Buffer) -> Vec<u8> { b.glyph_infos().iter().map(|i| i.modified_combining_class()).collect() }
     pub fn codes(b: &Buffer) -> Vec<u32> { b.glyph_infos().iter().map(|i| i.glyph_id).collect() }

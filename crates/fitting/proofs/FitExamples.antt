@@ -1,4 +1,4 @@
--- Fits of document 01's worked examples, and of READINGS 7 and 8, computed from the definition. A room of 10, one tile but for the last.
+-- Fits of document 01's worked examples, and of READINGS 7 and 8, computed from the definition. A room of 10 and one tile, where nothing else is said.
 -- Assumes nothing.
 use mathlib.Core.Path.{_≡_, refl}
 use Prim.Native.Nat.{ℕ}

@@ -20,8 +20,8 @@ pub back : {z : ℤ} → SFits w32 z → toZ w32 (ofZ w32 z) ≡ z
 back f = toZ-ofZ f
 
 -- the same of 64 bits
-pub back64 : {z : ℤ} → SFits w64 z → toZ w64 (ofZ w64 z) ≡ z
-back64 f = toZ-ofZ f
+pub back-wide : {z : ℤ} → SFits w64 z → toZ w64 (ofZ w64 z) ≡ z
+back-wide f = toZ-ofZ f
 
 -- a result that equals what fits, returned through a local
 pub ret : {x y : ℤ} → SFits w32 y → x ≡ y → toZ w32 (ofZ w32 x) ≡ y
@@ -105,11 +105,11 @@ pub wide-fits : {z : ℤ} → SFits w32 z → SFits w64 (toZ w32 (ofZ w32 z))
 wide-fits f = rw (back f) (widen f)
 
 pub widened : {z : ℤ} → SFits w32 z → toZ w64 (ofZ w64 (toZ w32 (ofZ w32 z))) ≡ z
-widened f = rw (back f) (back64 (widen f))
+widened f = rw (back f) (back-wide (widen f))
 
 -- the nearest number of what an operation makes of two such, returned through a local
 pub nearest :
     (op : ℤ → ℤ → ℤ) {a b r : ℤ} → SFits w32 a → SFits w32 b → SFits w64 (op a b)
     → r ≡ clamped (toZ w64 (ofZ w64 (op (toZ w64 (ofZ w64 (toZ w32 (ofZ w32 a)))) (toZ w64 (ofZ w64 (toZ w32 (ofZ w32 b)))))))
     → toZ w32 (ofZ w32 r) ≡ clamped (op a b)
-nearest op f g h e = ret (clamp-fits _) (rw (widened f, widened g, back64 h) at e)
+nearest op f g h e = ret (clamp-fits _) (rw (widened f, widened g, back-wide h) at e)

@@ -9,10 +9,10 @@ use Rattle.fitting.specs.Saturating.{clamped, satAdd, satSub}
 use Rattle.fitting.specs.Fit.{count, whole, added, copies, excess, squeezed, overlap, start}
 use Rattle.runs.specs.Records.{listed, lineOf}
 use Rattle.runs.specs.Runs.{tileAction, wordNumbers, sum, room, repeatingWidth, tiles}
-use Rattle.runs.specs.Stretched.{inOrder, pieces, runPieces, next, offsetAt, placed, placedRun, worked, stretched}
+use Rattle.runs.specs.Stretched.{inOrder, pieces, runPieces, next, moved, offsetAt, placed, placedRun, worked, stretched}
 use Rattle.stretching.specs.Stretching.{stretchRefusal}
 use Rattle.demands.specs.Examples.{Starred}
 
 pub starred : Starred
-unfolding form modifier smaller moves passes ranges reorderRefusal clamped satAdd satSub count whole added copies excess squeezed overlap start listed lineOf tileAction wordNumbers sum room repeatingWidth tiles inOrder pieces runPieces next offsetAt placed placedRun worked stretched stretchRefusal
+unfolding form modifier smaller moves passes ranges reorderRefusal clamped satAdd satSub count whole added copies excess squeezed overlap start listed lineOf tileAction wordNumbers sum room repeatingWidth tiles inOrder pieces runPieces next moved offsetAt placed placedRun worked stretched stretchRefusal
 starred = (refl, (refl, (refl, (refl, (refl, (refl, (refl, (refl, (refl, (refl, (refl, (refl, (refl, (refl, (refl, tt)))))))))))))))

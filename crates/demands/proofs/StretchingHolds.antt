@@ -73,13 +73,13 @@ module _ (q : Request) (output : Columns) (r : Answer) (left : Columns) (x : Str
     past-accepted =
         let m = accepted .room in
         rw (output-left, count-left) (
-          past-laid (λ (t : Record). t .glyph) (newLine q) (output .glyphs) (m .glyphs-fit),
-          past-laid (λ (t : Record). t .width) (newLine q) (output .widths) (m .widths-fit),
-          past-laid (λ (t : Record). t .category) (newLine q) (output .categories) (m .categories-fit),
-          past-laid (λ (t : Record). t .ignorable) (newLine q) (output .ignorables) (m .ignorables-fit),
-          past-laid (λ (t : Record). t .action) (newLine q) (output .actions) (m .actions-fit),
-          past-laid (λ (t : Record). t .advance) (newLine q) (output .advances) (m .advances-fit),
-          past-laid (λ (t : Record). t .offset) (newLine q) (output .offsets) (m .offsets-fit),
+          past-laid (λ (t : Record). t .glyph) (newLine q) (output .glyphs) (m .forGlyphs),
+          past-laid (λ (t : Record). t .width) (newLine q) (output .widths) (m .forWidths),
+          past-laid (λ (t : Record). t .category) (newLine q) (output .categories) (m .forCategories),
+          past-laid (λ (t : Record). t .ignorable) (newLine q) (output .ignorables) (m .forIgnorables),
+          past-laid (λ (t : Record). t .action) (newLine q) (output .actions) (m .forActions),
+          past-laid (λ (t : Record). t .advance) (newLine q) (output .advances) (m .forAdvances),
+          past-laid (λ (t : Record). t .offset) (newLine q) (output .offsets) (m .forOffsets),
         )
 
     -- the first records of the output are the new line

@@ -1,4 +1,4 @@
--- The loop that counts the records which stretching adds: what it carries (`Counting`), and a turn over a run and the plain records behind it (`counting-starts`, `counting-turn`, `counting-ends`); that its numbers fit (`turned`).
+-- The loop that counts the records of the stretched line: what it carries (`Counting`), and a turn over a run and the plain records behind it (`counting-starts`, `counting-turn`, `counting-ends`); that its numbers fit (`turned`).
 -- Assumes nothing.
 use mathlib.Core.Path.{_≡_, refl, sym, ap, _∙_}
 use mathlib.Core.Bool.{Bool, false}
@@ -11,27 +11,27 @@ use Rattle.laws.specs.Lists.{behind}
 use Rattle.laws.proofs.ListLaws.{front-past}
 use Rattle.runs.specs.Records.{Record, Columns}
 use Rattle.runs.specs.Runs.{isPlain, plain, run, pastRun, tiles, copiesOf}
-use Rattle.runs.specs.Stretched.{work, recordsAdded}
+use Rattle.runs.specs.Stretched.{work, worked, recordsAdded}
 use Rattle.runs.specs.Measured.{measuredOf}
 use Rattle.runs.specs.declared.Measured.{Measured}
 use Rattle.runs.proofs.RecordLaws.{length-work}
-use Rattle.runs.proofs.StretchedLaws.{AtRun, at-run, run-some, added-skips, added-at-run}
+use Rattle.runs.proofs.StretchedLaws.{AtRun, at-run, run-some, added-skips, added-at-run, length-worked}
 use Rattle.runs.proofs.MeasuredLaws.{past-is, run-fits, run-adds-most}
 
--- at k of the records l a run begins, or nothing is left; n were added up to there
+-- at k of the records l a run begins, or nothing is left; with what was added up to there, there are n
 pub record Counting (l : List Record) (k n : ℕ) : Type 0 where
   pub here : AtRun (drop k l)
-  pub all : recordsAdded false l ≡ n + recordsAdded false (drop k l)
+  pub all : length l + recordsAdded false l ≡ n + recordsAdded false (drop k l)
 
 -- past the plain records from a place on
 pub next-is : (l : List Record) (from : ℕ) → drop (from + length (plain (drop from l))) l ≡ behind isPlain (drop from l)
 next-is l from = sym (drop-drop (length (plain (drop from l))) from l) ∙ front-past isPlain (drop from l)
 
 module _ (l : List Record) where
-  pub counting-starts : (k : ℕ) → k ≡ length (plain l) → Counting l k 0
+  pub counting-starts : (k : ℕ) → k ≡ length (plain l) → Counting l k (length l)
   counting-starts k e =
       let there : drop k l ≡ behind isPlain l = ap (λ (j : ℕ). drop j l) e ∙ front-past isPlain l in
-      record { here = rw there (at-run l); all = rw there (added-skips l ∙ omega arith) }
+      record { here = rw there (at-run l); all = omega (arith, added-skips l, ap (recordsAdded false) there) }
 
   module _ (k n past : ℕ) (s : Counting l k n) (p : past ≡ k + length (run (drop k l))) where
     -- a run is at least one record long
@@ -45,9 +45,9 @@ module _ (l : List Record) where
         let rest : recordsAdded false (pastRun (drop k l)) ≡ recordsAdded false (drop j l) = ap (recordsAdded false) (sym behind-run) ∙ added-skips (drop past l) ∙ ap (recordsAdded false) (sym there) in
         record { here = rw there (at-run (drop past l)); all = omega (arith, s .all, added-at-run (drop k l) (s .here), rest) }
 
-  pub counting-ends : (k n : ℕ) → length l ≤ k → Counting l k n → n ≡ recordsAdded false l
+  pub counting-ends : (rtl : Bool) (k n : ℕ) → length l ≤ k → Counting l k n → n ≡ length (worked rtl false l)
   unfolding recordsAdded
-  counting-ends k n h s = omega (arith, s .all, ap (recordsAdded false) (drop-of-length-le l {i = k} h))
+  counting-ends rtl k n h s = omega (arith, s .all, ap (recordsAdded false) (drop-of-length-le l {i = k} h), length-worked rtl false l)
 
 -- ---- what the run at k comes to: it ends behind k, within the line, and adds no more than so many for each of its records
 pub record Turned (n k : ℕ) (r : Measured) : Type 0 where

@@ -10,7 +10,7 @@ use Rattle.laws.specs.Lists.{front}
 use Rattle.letters.specs.Actions.{fixed, repeating}
 use Rattle.runs.specs.Records.{Record, Columns}
 use Rattle.runs.specs.Runs.{inWord, run, plain, sum, widthOf, tiles, copiesOf, overlapOf, startOf}
-use Rattle.runs.specs.Stretched.{work, recordsAdded}
+use Rattle.runs.specs.Stretched.{work, worked}
 use Rattle.runs.specs.declared.Sums.{Sums}
 use Rattle.runs.specs.declared.Measured.{Measured}
 
@@ -64,7 +64,7 @@ abbrev pub MeasuredAt : Bool → ℕ → List ℤ → List ℕ → List ℕ → 
 MeasuredAt rtl from widths categories ignorables actions advances r =
     (c : Columns) → Lent c widths categories ignorables actions advances → r ≡ measuredOf from (drop from (work rtl c))
 
--- how many records stretching adds
-abbrev pub Added : Bool → List ℤ → List ℕ → List ℕ → List ℕ → List ℤ → ℕ → Type 0
-Added rtl widths categories ignorables actions advances r =
-    (c : Columns) → Lent c widths categories ignorables actions advances → r ≡ recordsAdded false (work rtl c)
+-- how many records the stretched line has
+abbrev pub StretchedLength : Bool → List ℤ → List ℕ → List ℕ → List ℕ → List ℤ → ℕ → Type 0
+StretchedLength rtl widths categories ignorables actions advances r =
+    (c : Columns) → Lent c widths categories ignorables actions advances → r ≡ length (worked rtl false (work rtl c))

@@ -9,7 +9,7 @@ ghost use Rattle.refusals.specs.Columns.{lineLimit, atMost};
 ghost use Rattle.letters.specs.Actions.{repeating};
 ghost use Rattle.runs.specs.Runs.{tileAction, wordCategories, wordNumbers};
 ghost use Rattle.runs.specs.Stretched.{partOf};
-ghost use Rattle.runs.specs.Measured.{Even, NextRun, SumsAt, WordAt, MeasuredAt, Added};
+ghost use Rattle.runs.specs.Measured.{Even, NextRun, SumsAt, WordAt, MeasuredAt, StretchedLength};
 use letters::Action;
 use letters::Category;
 
@@ -219,8 +219,8 @@ pub fn measured_at(
     }
 }
 
-// How many records stretching adds.
-pub fn count_added(
+// How many records the stretched line has.
+pub fn stretched_length(
     rtl: bool,
     widths: &[i32],
     categories: &[u8],
@@ -231,15 +231,15 @@ pub fn count_added(
     requires { ⌜ length (now actions) ≤ lineLimit ⌝ }
     requires { ⌜ atMost repeating (now actions) ≡ true ⌝ }
     requires { ⌜ Even (length (now actions)) (now widths) (now categories) (now ignorables) (now advances) ⌝ }
-    ensures { λ r. ⌜ Added rtl (now (widths .entry)) (now (categories .entry)) (now (ignorables .entry)) (now (actions .entry)) (now (advances .entry)) r ⌝ }
+    ensures { λ r. ⌜ StretchedLength rtl (now (widths .entry)) (now (categories .entry)) (now (ignorables .entry)) (now (actions .entry)) (now (advances .entry)) r ⌝ }
 {
     let n = actions.len();
-    let mut added: usize = 0;
+    let mut total = n;
     let mut k = next_run(rtl, 0, actions);
     while k < n {
         let run = measured_at(rtl, k, widths, categories, ignorables, actions, advances);
-        added += run.copies * run.tiles;
+        total += run.copies * run.tiles;
         k = next_run(rtl, run.past, actions);
     }
-    added
+    total
 }

@@ -3,3 +3,4 @@
 pub mod StretchingLaws
 pub mod StretchExamples
 pub mod WriteLaws
+pub mod CallLaws

@@ -1,12 +1,12 @@
 -- What is known of the call: an answer is known by its number and by the length that it says (`same-answer`); two that the statement allows are equal, and leave the same (`one-answer`); what a refused call leaves
--- (`refused-left`), and an accepted one (`accepted-left`); a request that is not refused (`Room`, `Allowed`, `allowed`).
+-- (`refused-left`), and an accepted one (`accepted-left`); a request that is not refused (`evenly`, `Allowed`, `allowed`).
 -- Assumes nothing.
 use mathlib.Core.Path.{_≡_, sym, ap}
-use mathlib.Core.Bool.{false, not, _&&_}
+use mathlib.Core.Bool.{true, false, not, _&&_, and-eq-true-iff}
 use mathlib.Core.List.{[], _∷_}
 use Prim.Native.Nat.{ℕ, _≤_}
-use borrow.Author.Tests.{ltb-false}
-use lib.Dec.{ltb}
+use borrow.Author.Tests.{not-false, eqb-true, ltb-false}
+use lib.Dec.{eqb, ltb}
 use lib.ListN.{length}
 use Rattle.laws.specs.Rows.{Given}
 use Rattle.laws.proofs.RowLaws.{first-none}
@@ -18,6 +18,7 @@ use Rattle.refusals.proofs.LeftLaws.{alike, left-number, left-stays, left-accep
 use Rattle.letters.specs.Categories.{Zs}
 use Rattle.letters.specs.Actions.{repeating}
 use Rattle.runs.specs.Records.{Columns}
+use Rattle.laying.specs.Laid.{EvenLine, Roomy}
 use Rattle.stretching.specs.declared.Answer.{Answer}
 use Rattle.stretching.specs.declared.Answer.the-variants.{Stretched}
 use Rattle.stretching.specs.Stretching.{stretchedLimit, Request, Outcome, outcome, newLine, laidOver, unequal, shorter, stretchRefusal, numberSaid, lengthSaid, stretchAfter, Stretching}
@@ -60,17 +61,26 @@ module _ (q : Request) (output : Columns) (r : Answer) (left : Columns) (x : Str
       (ap (λ (o : Outcome). o .output) g, ap (λ (o : Outcome). o .count) g)
 
 -- ---- a request that is not refused
--- an output whose columns have n places each, or more
-pub record Room (n : ℕ) (c : Columns) : Type 0 where
-  pub glyphs-fit : n ≤ length (c .glyphs)
-  pub widths-fit : n ≤ length (c .widths)
-  pub categories-fit : n ≤ length (c .categories)
-  pub ignorables-fit : n ≤ length (c .ignorables)
-  pub actions-fit : n ≤ length (c .actions)
-  pub advances-fit : n ≤ length (c .advances)
-  pub offsets-fit : n ≤ length (c .offsets)
+-- a line whose columns are of one length
+pub evenly : (c : Columns) → unequal c ≡ false → EvenLine c
+evenly c z =
+    let n = length (c .actions) in
+    let a = neither (not (eqb (length (c .glyphs)) n)) _ z in
+    let b = neither (not (eqb (length (c .widths)) n)) _ (a .1) in
+    let d = neither (not (eqb (length (c .categories)) n)) _ (b .1) in
+    let e = neither (not (eqb (length (c .ignorables)) n)) _ (d .1) in
+    let f = neither (not (eqb (length (c .advances)) n)) _ (e .1) in
+    record {
+      evenGlyphs = eqb-true _ n (not-false _ (a .0));
+      evenWidths = eqb-true _ n (not-false _ (b .0));
+      evenCategories = eqb-true _ n (not-false _ (d .0));
+      evenIgnorables = eqb-true _ n (not-false _ (e .0));
+      evenAdvances = eqb-true _ n (not-false _ (f .0));
+      evenOffsets = eqb-true _ n (not-false _ (f .1));
+    }
 
-has-room : (n : ℕ) (c : Columns) → shorter n c ≡ false → Room n c
+-- an output that has room for n records
+has-room : (n : ℕ) (c : Columns) → shorter n c ≡ false → Roomy n c
 has-room n c z =
     let a = neither (ltb (length (c .glyphs)) n) _ z in
     let b = neither (ltb (length (c .widths)) n) _ (a .1) in
@@ -79,20 +89,22 @@ has-room n c z =
     let f = neither (ltb (length (c .actions)) n) _ (e .1) in
     let g = neither (ltb (length (c .advances)) n) _ (f .1) in
     record {
-      glyphs-fit = ltb-false _ n (a .0);
-      widths-fit = ltb-false _ n (b .0);
-      categories-fit = ltb-false _ n (d .0);
-      ignorables-fit = ltb-false _ n (e .0);
-      actions-fit = ltb-false _ n (f .0);
-      advances-fit = ltb-false _ n (g .0);
-      offsets-fit = ltb-false _ n (g .1);
+      forGlyphs = ltb-false _ n (a .0);
+      forWidths = ltb-false _ n (b .0);
+      forCategories = ltb-false _ n (d .0);
+      forIgnorables = ltb-false _ n (e .0);
+      forActions = ltb-false _ n (f .0);
+      forAdvances = ltb-false _ n (g .0);
+      forOffsets = ltb-false _ n (g .1);
     }
 
 -- of the rows that stretching uses, none applies
 pub record Allowed (q : Request) (output : Columns) : Type 0 where
+  pub even : EvenLine (q .line)
   pub few : length (q .line .actions) ≤ lineLimit
+  pub known : atMost repeating (q .line .actions) ≡ true
   pub not-over : length (newLine q) ≤ stretchedLimit
-  pub room : Room (length (newLine q)) output
+  pub room : Roomy (length (newLine q)) output
 
 pub allowed : (q : Request) (output : Columns) → stretchRefusal stretchedLimit q output ≡ 0 → Allowed q output
 unfolding stretchRefusal
@@ -107,6 +119,8 @@ allowed q output z =
     let strange-not = first-none 2 strange six (long-not .1) in
     let over-not = first-none 5 (ltb stretchedLimit n) eight (strange-not .1) in
     record {
+      even = evenly (q .line) (uneven-not .0);
+      known = and-eq-true-iff (atMost Zs (q .line .categories)) (atMost repeating (q .line .actions)) .0 (not-false _ (strange-not .0)) .1;
       few = ltb-false lineLimit (length (q .line .actions)) (long-not .0);
       not-over = ltb-false stretchedLimit n (over-not .0);
       room = has-room n output (first-none 7 (shorter n output) [] (over-not .1) .0);

@@ -1,5 +1,5 @@
--- The call that stretches a line: `Request` what is asked for; `Columns` (crate runs) what is lent, the line's and the output's; `Outcome` what is there afterwards; `newLine` what stretching gives; `over` where it is laid;
--- `Lengths`, `lengths`, `unequal`, `shorter`, `stretchRows`, `stretchRefusal` when it is refused, and with which number; `numberSaid`, `lengthSaid` what an answer says; `stretchAfter`, `Stretching` what the call answers and leaves, of every input.
+-- The call that stretches a line: `Request` what is asked for; `Columns` (crate runs) what is lent, the line's and the output's; `Outcome` what is there afterwards; `newLine` what stretching gives; `over`, `laidOver` where it is laid;
+-- `differing`, `unequal`, `lacking`, `shorter`, `rowsOf`, `stretchRows`, `stretchRefusal` when it is refused, and with which number; `numberSaid`, `lengthSaid` what an answer says; `judged`, `Judging` what is answered before anything is laid; `stretchAfter`, `Stretching` what the call answers and leaves, of every input.
 -- Assumes nothing.
 use mathlib.Core.Path.{_≡_}
 use mathlib.Core.Bool.{Bool, cond, not, _&&_, _||_}
@@ -7,6 +7,7 @@ use mathlib.Core.List.{List, [], _∷_, _++_}
 use Prim.Native.Nat.{ℕ}
 use lib.Dec.{eqb, ltb}
 use lib.ListN.{length, drop}
+use lib.IntN.{ℤ}
 use Rattle.laws.specs.Rows.{Row, Given, first}
 use Rattle.refusals.specs.Numbers.{numberOf}
 use Rattle.refusals.specs.Columns.{lineLimit, atMost}
@@ -15,6 +16,7 @@ use Rattle.letters.specs.Categories.{Zs}
 use Rattle.letters.specs.Actions.{repeating}
 use Rattle.runs.specs.Records.{Record, Columns, columns, lineOf, columnsOf}
 use Rattle.runs.specs.Stretched.{stretched}
+use Rattle.runs.specs.Measured.{Lent}
 use Rattle.stretching.specs.declared.Answer.{Answer}
 use Rattle.stretching.specs.declared.Answer.the-variants.{Stretched, Refused}
 
@@ -58,37 +60,52 @@ over new old n =
 abbrev pub laidOver : List Record → Columns → Columns
 laidOver l output = over (columnsOf l) output (length l)
 
--- "columns that belong together differ in length": some column is not as long as the actions
+-- "columns that belong together differ in length": some number of records is not n, that of the actions
+abbrev pub differing : ℕ → ℕ → ℕ → ℕ → ℕ → ℕ → ℕ → Bool
+differing n glyphs widths categories ignorables advances offsets =
+    not (eqb glyphs n) || (not (eqb widths n) || (not (eqb categories n) || (not (eqb ignorables n) || (not (eqb advances n) || not (eqb offsets n)))))
+
 abbrev pub unequal : Columns → Bool
 unequal c =
-    not (eqb (length (c .glyphs)) (length (c .actions)))
-    || (not (eqb (length (c .widths)) (length (c .actions)))
-    || (not (eqb (length (c .categories)) (length (c .actions)))
-    || (not (eqb (length (c .ignorables)) (length (c .actions)))
-    || (not (eqb (length (c .advances)) (length (c .actions)))
-    || not (eqb (length (c .offsets)) (length (c .actions)))))))
+    differing
+    (length (c .actions))
+    (length (c .glyphs))
+    (length (c .widths))
+    (length (c .categories))
+    (length (c .ignorables))
+    (length (c .advances))
+    (length (c .offsets))
 
--- "the lent output is shorter than the answer": "each by its own part"
+-- "the lent output is shorter than the answer", "each by its own part": some number of places is below n
+abbrev pub lacking : ℕ → ℕ → ℕ → ℕ → ℕ → ℕ → ℕ → ℕ → Bool
+lacking n glyphs widths categories ignorables actions advances offsets =
+    ltb glyphs n || (ltb widths n || (ltb categories n || (ltb ignorables n || (ltb actions n || (ltb advances n || ltb offsets n)))))
+
 abbrev pub shorter : ℕ → Columns → Bool
 shorter n c =
-    ltb (length (c .glyphs)) n
-    || (ltb (length (c .widths)) n
-    || (ltb (length (c .categories)) n
-    || (ltb (length (c .ignorables)) n
-    || (ltb (length (c .actions)) n
-    || (ltb (length (c .advances)) n
-    || ltb (length (c .offsets)) n)))))
+    lacking
+    n
+    (length (c .glyphs))
+    (length (c .widths))
+    (length (c .categories))
+    (length (c .ignorables))
+    (length (c .actions))
+    (length (c .advances))
+    (length (c .offsets))
 
--- the rows of document 01's table that stretching uses, under a cap
-abbrev pub stretchRows : ℕ → Request → Columns → List Row
-stretchRows cap q output =
+-- the rows of document 01's table that stretching uses, under a cap; `short` if the output is shorter than the answer
+abbrev pub rowsOf : ℕ → Request → Bool → List Row
+rowsOf cap q short =
     Given 1 (unequal (q .line)) ∷
     Given 2 (ltb lineLimit (length (q .line .actions))) ∷
     -- "a .. category above 29, action above 9"
     Given 3 (not (atMost Zs (q .line .categories) && atMost repeating (q .line .actions))) ∷
     Given 6 (ltb cap (length (newLine q))) ∷
-    Given 8 (shorter (length (newLine q)) output) ∷
+    Given 8 short ∷
     []
+
+abbrev pub stretchRows : ℕ → Request → Columns → List Row
+stretchRows cap q output = rowsOf cap q (shorter (length (newLine q)) output)
 
 unfoldable pub stretchRefusal : ℕ → Request → Columns → ℕ
 stretchRefusal cap q output = first (stretchRows cap q output)
@@ -102,6 +119,13 @@ abbrev pub lengthSaid : Answer → ℕ
 lengthSaid (Stretched n) = n
 lengthSaid (Refused k) = 0
 
+-- what is answered before anything is laid: the number, and the length, 0 with a refusal
+abbrev pub judged : ℕ → Request → Bool → Left ℕ
+judged cap q short = leaves (first (rowsOf cap q short)) 0 (length (newLine q))
+
+abbrev pub Judging : Request → Bool → Answer → Type 0
+Judging q short r = After (numberSaid r) (lengthSaid r) ≡ judged stretchedLimit q short
+
 -- the call under a cap: a refusal leaves the output as it was
 abbrev pub stretchAfter : ℕ → Request → Columns → Left Outcome
 stretchAfter cap q output = leaves (stretchRefusal cap q output) (outcome 0 output) (outcome (length (newLine q)) (laidOver (newLine q) output))
@@ -109,3 +133,9 @@ stretchAfter cap q output = leaves (stretchRefusal cap q output) (outcome 0 outp
 -- the statement of `stretch`: asked for q with an output lent, it may answer r and leave the output `left`
 abbrev pub Stretching : Request → Columns → Answer → Columns → Type 0
 Stretching q output r left = After (numberSaid r) (outcome (lengthSaid r) left) ≡ stretchAfter stretchedLimit q output
+
+-- ---- what is answered by calls that are lent a part of that
+-- the length of the new line, of any line with these columns
+abbrev pub NewLength : Bool → Bool → List ℤ → List ℕ → List ℕ → List ℕ → List ℤ → ℕ → Type 0
+NewLength recorded rtl widths categories ignorables actions advances r =
+    (c : Columns) → Lent c widths categories ignorables actions advances → r ≡ length (newLine (requestOf recorded rtl c))

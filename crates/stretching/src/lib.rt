@@ -7,8 +7,15 @@ ghost use Rattle.refusals.specs.Columns.{lineLimit, atMost};
 ghost use Rattle.letters.specs.Actions.{repeating};
 ghost use Rattle.runs.specs.Records.{columns};
 ghost use Rattle.runs.specs.Stretched.{work, worked};
+ghost use Rattle.runs.specs.Measured.{Even};
 ghost use Rattle.laying.specs.Laid.{laid, EvenLine, Roomy};
+ghost use Rattle.stretching.specs.Stretching.{requestOf, newLine, differing, lacking, NewLength, Judging};
+use letters::Action;
+use letters::Category;
 use refusals::Refusal;
+
+// Records of a stretched line, at most.
+const STRETCHED_LIMIT: usize = 16384;
 
 // What the call answers: how many records the stretched line has.
 pub enum Answer {
@@ -92,5 +99,73 @@ fn write(
             to_offsets,
         );
         k = past;
+    }
+}
+
+// Some column of the line is not of `n` records.
+fn differ(n: usize, glyphs: usize, widths: usize, categories: usize, ignorables: usize, advances: usize, offsets: usize) -> bool
+    ensures { λ r. ⌜ r ≡ differing n glyphs widths categories ignorables advances offsets ⌝ }
+{
+    (glyphs != n) | ((widths != n) | ((categories != n) | ((ignorables != n) | ((advances != n) | (offsets != n)))))
+}
+
+// Some column of the output is shorter than `n`.
+fn lack(n: usize, glyphs: usize, widths: usize, categories: usize, ignorables: usize, actions: usize, advances: usize, offsets: usize) -> bool
+    ensures { λ r. ⌜ r ≡ lacking n glyphs widths categories ignorables actions advances offsets ⌝ }
+{
+    (glyphs < n) | ((widths < n) | ((categories < n) | ((ignorables < n) | ((actions < n) | ((advances < n) | (offsets < n))))))
+}
+
+// How many records the new line has.
+fn new_length(recorded: bool, rtl: bool, widths: &[i32], categories: &[u8], ignorables: &[u8], actions: &[u8], advances: &[i32]) -> usize
+    requires { ⌜ (length (now actions) ≤ lineLimit) × (atMost repeating (now actions) ≡ true) ⌝ }
+    requires { ⌜ Even (length (now actions)) (now widths) (now categories) (now ignorables) (now advances) ⌝ }
+    ensures { λ r. ⌜ NewLength recorded rtl (now (widths .entry)) (now (categories .entry)) (now (ignorables .entry)) (now (actions .entry)) (now (advances .entry)) r ⌝ }
+{
+    if recorded {
+        runs::stretched_length(rtl, widths, categories, ignorables, actions, advances)
+    } else {
+        actions.len()
+    }
+}
+
+// What the call answers, before anything is laid: all tests, and the length. The output's columns have so many places.
+fn judge(
+    recorded: bool,
+    rtl: bool,
+    glyphs: &[u32],
+    widths: &[i32],
+    categories: &[u8],
+    ignorables: &[u8],
+    actions: &[u8],
+    advances: &[i32],
+    offsets: &[i32],
+    to_glyphs: usize,
+    to_widths: usize,
+    to_categories: usize,
+    to_ignorables: usize,
+    to_actions: usize,
+    to_advances: usize,
+    to_offsets: usize,
+) -> Answer
+    ensures { λ r. ⌜ Judging (requestOf recorded rtl (columns (now (glyphs .entry)) (now (widths .entry)) (now (categories .entry)) (now (ignorables .entry)) (now (actions .entry)) (now (advances .entry)) (now (offsets .entry)))) (lacking (length (newLine (requestOf recorded rtl (columns (now (glyphs .entry)) (now (widths .entry)) (now (categories .entry)) (now (ignorables .entry)) (now (actions .entry)) (now (advances .entry)) (now (offsets .entry)))))) «to_glyphs» «to_widths» «to_categories» «to_ignorables» «to_actions» «to_advances» «to_offsets») r ⌝ }
+{
+    if differ(actions.len(), glyphs.len(), widths.len(), categories.len(), ignorables.len(), advances.len(), offsets.len()) {
+        return Answer::Refused(Refusal::Uneven);
+    }
+    if refusals::LINE_LIMIT < actions.len() {
+        return Answer::Refused(Refusal::TooLong);
+    }
+    if refusals::within(categories, Category::ZS.0) & refusals::within(actions, Action::REPEATING.0) {
+        let n = new_length(recorded, rtl, widths, categories, ignorables, actions, advances);
+        if STRETCHED_LIMIT < n {
+            return Answer::Refused(Refusal::Stretched);
+        }
+        if lack(n, to_glyphs, to_widths, to_categories, to_ignorables, to_actions, to_advances, to_offsets) {
+            return Answer::Refused(Refusal::NoRoom);
+        }
+        Answer::Stretched(n)
+    } else {
+        Answer::Refused(Refusal::OutOfRange)
     }
 }

@@ -1,4 +1,4 @@
--- The call, put together: the length of the new line (`length-recorded`); what judging gives, by the tests (`judged-uneven`, `judged-long`, `judged-strange`, `judged-over`, `judged-short`, `judged-accepted`); the new line laid into the output (`laid-over`, `work-laid`, `line-laid`).
+-- The call, put together: the length of the new line (`length-recorded`); what judging gives, by the tests (`judged-uneven`, `judged-long`, `judged-strange`, `judged-over`, `judged-short`, `judged-accepted`), and what that says of the request (`judged-number`, `judged-length`); the new line laid into the output (`laid-over`, `work-laid`, `line-laid`).
 -- Assumes nothing.
 use mathlib.Core.Path.{_≡_, refl, sym, ap, ap₂, _∙_}
 use mathlib.Core.Bool.{Bool, true, false, not, _&&_}
@@ -12,7 +12,7 @@ use lib.Seq.{take-all}
 use Rattle.laws.specs.Rows.{first}
 use Rattle.refusals.specs.Columns.{lineLimit, atMost}
 use Rattle.refusals.specs.Left.{After, leaves}
-use Rattle.refusals.proofs.LeftLaws.{left-refused, left-done}
+use Rattle.refusals.proofs.LeftLaws.{left-refused, left-done, left-number, left-accepted}
 use Rattle.letters.specs.Categories.{Zs}
 use Rattle.letters.specs.Actions.{repeating}
 use Rattle.runs.specs.Records.{Record, Columns, lineOf}
@@ -20,7 +20,7 @@ use Rattle.runs.specs.Stretched.{inOrder, work, worked, stretched}
 use Rattle.runs.proofs.RecordLaws.{length-in-order, order-twice, length-line, length-work}
 use Rattle.laying.specs.Laid.{laid}
 use Rattle.laying.proofs.LaidLaws.{laid-on-whole, columns-same}
-use Rattle.stretching.specs.Stretching.{Request, newLine, unequal, rowsOf, judged, laidOver}
+use Rattle.stretching.specs.Stretching.{Request, stretchedLimit, newLine, unequal, shorter, rowsOf, stretchRows, stretchRefusal, judged, laidOver}
 
 pub length-recorded : (rtl : Bool) (c : Columns) → length (stretched rtl (lineOf c)) ≡ length (worked rtl false (work rtl c))
 unfolding stretched work
@@ -53,6 +53,15 @@ module _ (cap : ℕ) (q : Request) (short : Bool) where
           pub judged-accepted : short ≡ false → After 0 (length (newLine q)) ≡ judged cap q short
           judged-accepted t =
               left-done (first (rowsOf cap q short)) 0 (length (newLine q)) 0 (length (newLine q)) (rw (e, le-ltb lineLimit (length (q .line .actions)) h, s, le-ltb cap (length (newLine q)) o, t)) refl refl
+
+-- what an answer of judging says of the request
+module _ (q : Request) (output : Columns) where
+  pub judged-number : (k n : ℕ) → After k n ≡ judged stretchedLimit q (shorter (length (newLine q)) output) → k ≡ stretchRefusal stretchedLimit q output
+  unfolding stretchRefusal
+  judged-number k n e = left-number (first (stretchRows stretchedLimit q output)) 0 (length (newLine q)) k n e
+
+  pub judged-length : (n : ℕ) → After 0 n ≡ judged stretchedLimit q (shorter (length (newLine q)) output) → n ≡ length (newLine q)
+  judged-length n e = left-accepted (first (stretchRows stretchedLimit q output)) 0 (length (newLine q)) 0 n e refl
 
 -- ---- laid into the output
 pub laid-over : (rtl : Bool) (m : ℕ) (l : List Record) (output : Columns) → length l ≡ m → laid rtl m 0 l output ≡ laidOver (inOrder rtl l) output

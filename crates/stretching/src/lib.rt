@@ -9,7 +9,7 @@ ghost use Rattle.runs.specs.Records.{columns};
 ghost use Rattle.runs.specs.Stretched.{work, worked};
 ghost use Rattle.runs.specs.Measured.{Even};
 ghost use Rattle.laying.specs.Laid.{laid, EvenLine, Roomy};
-ghost use Rattle.stretching.specs.Stretching.{requestOf, newLine, differing, lacking, NewLength, Judging};
+ghost use Rattle.stretching.specs.Stretching.{requestOf, newLine, differing, lacking, NewLength, Judging, Stretching};
 use letters::Action;
 use letters::Category;
 use refusals::Refusal;
@@ -103,21 +103,51 @@ fn write(
 }
 
 // Some column of the line is not of `n` records.
-fn differ(n: usize, glyphs: usize, widths: usize, categories: usize, ignorables: usize, advances: usize, offsets: usize) -> bool
+fn differ(
+    n: usize,
+    glyphs: usize,
+    widths: usize,
+    categories: usize,
+    ignorables: usize,
+    advances: usize,
+    offsets: usize,
+) -> bool
     ensures { λ r. ⌜ r ≡ differing n glyphs widths categories ignorables advances offsets ⌝ }
 {
-    (glyphs != n) | ((widths != n) | ((categories != n) | ((ignorables != n) | ((advances != n) | (offsets != n)))))
+    (glyphs != n)
+        | ((widths != n)
+            | ((categories != n) | ((ignorables != n) | ((advances != n) | (offsets != n)))))
 }
 
 // Some column of the output is shorter than `n`.
-fn lack(n: usize, glyphs: usize, widths: usize, categories: usize, ignorables: usize, actions: usize, advances: usize, offsets: usize) -> bool
+fn lack(
+    n: usize,
+    glyphs: usize,
+    widths: usize,
+    categories: usize,
+    ignorables: usize,
+    actions: usize,
+    advances: usize,
+    offsets: usize,
+) -> bool
     ensures { λ r. ⌜ r ≡ lacking n glyphs widths categories ignorables actions advances offsets ⌝ }
 {
-    (glyphs < n) | ((widths < n) | ((categories < n) | ((ignorables < n) | ((actions < n) | ((advances < n) | (offsets < n))))))
+    (glyphs < n)
+        | ((widths < n)
+            | ((categories < n)
+                | ((ignorables < n) | ((actions < n) | ((advances < n) | (offsets < n))))))
 }
 
 // How many records the new line has.
-fn new_length(recorded: bool, rtl: bool, widths: &[i32], categories: &[u8], ignorables: &[u8], actions: &[u8], advances: &[i32]) -> usize
+fn new_length(
+    recorded: bool,
+    rtl: bool,
+    widths: &[i32],
+    categories: &[u8],
+    ignorables: &[u8],
+    actions: &[u8],
+    advances: &[i32],
+) -> usize
     requires { ⌜ (length (now actions) ≤ lineLimit) × (atMost repeating (now actions) ≡ true) ⌝ }
     requires { ⌜ Even (length (now actions)) (now widths) (now categories) (now ignorables) (now advances) ⌝ }
     ensures { λ r. ⌜ NewLength recorded rtl (now (widths .entry)) (now (categories .entry)) (now (ignorables .entry)) (now (actions .entry)) (now (advances .entry)) r ⌝ }
@@ -150,22 +180,139 @@ fn judge(
 ) -> Answer
     ensures { λ r. ⌜ Judging (requestOf recorded rtl (columns (now (glyphs .entry)) (now (widths .entry)) (now (categories .entry)) (now (ignorables .entry)) (now (actions .entry)) (now (advances .entry)) (now (offsets .entry)))) (lacking (length (newLine (requestOf recorded rtl (columns (now (glyphs .entry)) (now (widths .entry)) (now (categories .entry)) (now (ignorables .entry)) (now (actions .entry)) (now (advances .entry)) (now (offsets .entry)))))) «to_glyphs» «to_widths» «to_categories» «to_ignorables» «to_actions» «to_advances» «to_offsets») r ⌝ }
 {
-    if differ(actions.len(), glyphs.len(), widths.len(), categories.len(), ignorables.len(), advances.len(), offsets.len()) {
+    if differ(
+        actions.len(),
+        glyphs.len(),
+        widths.len(),
+        categories.len(),
+        ignorables.len(),
+        advances.len(),
+        offsets.len(),
+    ) {
         return Answer::Refused(Refusal::Uneven);
     }
     if refusals::LINE_LIMIT < actions.len() {
         return Answer::Refused(Refusal::TooLong);
     }
-    if refusals::within(categories, Category::ZS.0) & refusals::within(actions, Action::REPEATING.0) {
-        let n = new_length(recorded, rtl, widths, categories, ignorables, actions, advances);
+    if refusals::within(categories, Category::ZS.0)
+        & refusals::within(actions, Action::REPEATING.0)
+    {
+        let n = new_length(
+            recorded,
+            rtl,
+            widths,
+            categories,
+            ignorables,
+            actions,
+            advances,
+        );
         if STRETCHED_LIMIT < n {
             return Answer::Refused(Refusal::Stretched);
         }
-        if lack(n, to_glyphs, to_widths, to_categories, to_ignorables, to_actions, to_advances, to_offsets) {
+        if lack(
+            n,
+            to_glyphs,
+            to_widths,
+            to_categories,
+            to_ignorables,
+            to_actions,
+            to_advances,
+            to_offsets,
+        ) {
             return Answer::Refused(Refusal::NoRoom);
         }
         Answer::Stretched(n)
     } else {
         Answer::Refused(Refusal::OutOfRange)
+    }
+}
+
+// Stretches the recorded runs of a line, right to left or left to right, into the lent output; says how many records there are then. A line of which nothing was recorded is given as it is.
+pub fn stretch(
+    recorded: bool,
+    rtl: bool,
+    glyphs: &[u32],
+    widths: &[i32],
+    categories: &[u8],
+    ignorables: &[u8],
+    actions: &[u8],
+    advances: &[i32],
+    offsets: &[i32],
+    to_glyphs: &mut [u32],
+    to_widths: &mut [i32],
+    to_categories: &mut [u8],
+    to_ignorables: &mut [u8],
+    to_actions: &mut [u8],
+    to_advances: &mut [i32],
+    to_offsets: &mut [i32],
+) -> Answer
+    ensures { λ r. ⌜ Stretching (requestOf recorded rtl (columns (now (glyphs .entry)) (now (widths .entry)) (now (categories .entry)) (now (ignorables .entry)) (now (actions .entry)) (now (advances .entry)) (now (offsets .entry)))) (columns (now («to_glyphs» .entry)) (now («to_widths» .entry)) (now («to_categories» .entry)) (now («to_ignorables» .entry)) (now («to_actions» .entry)) (now («to_advances» .entry)) (now («to_offsets» .entry))) r (columns (now («to_glyphs» .exit)) (now («to_widths» .exit)) (now («to_categories» .exit)) (now («to_ignorables» .exit)) (now («to_actions» .exit)) (now («to_advances» .exit)) (now («to_offsets» .exit))) ⌝ }
+{
+    let answer = judge(
+        recorded,
+        rtl,
+        glyphs,
+        widths,
+        categories,
+        ignorables,
+        actions,
+        advances,
+        offsets,
+        to_glyphs.len(),
+        to_widths.len(),
+        to_categories.len(),
+        to_ignorables.len(),
+        to_actions.len(),
+        to_advances.len(),
+        to_offsets.len(),
+    );
+    match answer {
+        Answer::Refused(refusal) => Answer::Refused(refusal),
+        Answer::Stretched(n) => {
+            if recorded {
+                write(
+                    rtl,
+                    glyphs,
+                    widths,
+                    categories,
+                    ignorables,
+                    actions,
+                    advances,
+                    offsets,
+                    n,
+                    to_glyphs,
+                    to_widths,
+                    to_categories,
+                    to_ignorables,
+                    to_actions,
+                    to_advances,
+                    to_offsets,
+                );
+                Answer::Stretched(n)
+            } else {
+                laying::keep(
+                    rtl,
+                    0,
+                    n,
+                    glyphs,
+                    widths,
+                    categories,
+                    ignorables,
+                    actions,
+                    advances,
+                    offsets,
+                    n,
+                    0,
+                    to_glyphs,
+                    to_widths,
+                    to_categories,
+                    to_ignorables,
+                    to_actions,
+                    to_advances,
+                    to_offsets,
+                );
+                Answer::Stretched(n)
+            }
+        }
     }
 }

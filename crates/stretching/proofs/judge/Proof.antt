@@ -55,14 +55,14 @@ within-requires-2 : tie.Need-within-requires-2
 within-requires-2 c κs = search needs
 
 new-length-requires : tie.Need-new-length-requires
-new-length-requires c κs = 
+new-length-requires c κs =
     let s = c .before .before .before .before .before .before .before .before .before .before in
     let even = evenly (asked s .line) (evenness (c .before .before .before .before)) in
     let within = and-eq-true-iff (atMost Zs (s .args .categories .now)) (atMost repeating (s .args .actions .now)) .0 (knownness c) in
     ((c .before .before .before .if2 .left, within .1), record { evenWidths = even .evenWidths; evenCategories = even .evenCategories; evenIgnorables = even .evenIgnorables; evenAdvances = even .evenAdvances })
 
 returns-3 : tie.Need-returns-3
-returns-3 c = 
+returns-3 c =
     let long = length-found (c .before) in
     judged-over stretchedLimit (asked (c .before .before .before .before .before .before .before .before .before .before .before .before)) (short (c .before .before .before .before .before .before .before .before .before .before .before .before)) (evenness (c .before .before .before .before .before .before)) (c .before .before .before .before .before .if2 .left) (knownness (c .before .before)) (rw (← long) (c .if4 .taken))
 
@@ -70,12 +70,12 @@ lack-requires : tie.Need-lack-requires
 lack-requires c κs = search needs
 
 returns-4 : tie.Need-returns-4
-returns-4 c = 
+returns-4 c =
     let long = length-found (c .before .before .before) in
     judged-short stretchedLimit (asked (c .before .before .before .before .before .before .before .before .before .before .before .before .before .before)) (short (c .before .before .before .before .before .before .before .before .before .before .before .before .before .before)) (evenness (c .before .before .before .before .before .before .before .before)) (c .before .before .before .before .before .before .before .if2 .left) (knownness (c .before .before .before .before)) (rw (← long) (c .before .before .if4 .left)) (rw (← long) (sym (c .before .lack .ensures) ∙ c .if5 .taken))
 
 returns-5 : tie.Need-returns-5
-returns-5 c = 
+returns-5 c =
     let long = length-found (c .before .before .before) in
     rw long (judged-accepted stretchedLimit (asked (c .before .before .before .before .before .before .before .before .before .before .before .before .before .before)) (short (c .before .before .before .before .before .before .before .before .before .before .before .before .before .before)) (evenness (c .before .before .before .before .before .before .before .before)) (c .before .before .before .before .before .before .before .if2 .left) (knownness (c .before .before .before .before)) (rw (← long) (c .before .before .if4 .left)) (rw (← long) (sym (c .before .lack .ensures) ∙ c .if5 .left)))
 

@@ -119,10 +119,10 @@ module _ (q : Request) where
 pub given-as-it-is : GivenAsItIs
 given-as-it-is q output r left x z (inl e) =
     let same = line-unrecorded q e in
-    (count-left q output r left x z ∙ ap length same ∙ length-line true (q .line), records-left q output r left x z ∙ same)
+    (count-left q output r left x z ∙ ap length same ∙ length-line (q .line), records-left q output r left x z ∙ same)
 given-as-it-is q output r left x z (inr e) =
     let same = line-none q e in
-    (count-left q output r left x z ∙ ap length same ∙ length-line true (q .line), records-left q output r left x z ∙ same)
+    (count-left q output r left x z ∙ ap length same ∙ length-line (q .line), records-left q output r left x z ∙ same)
 
 pub count-added : CountAdded
 unfolding work
@@ -130,7 +130,7 @@ count-added q output r left x z e =
     count-left q output r left x z
     ∙ ap length (line-recorded q e)
     ∙ length-stretched (q .rtl) (lineOf (q .line))
-    ∙ ap (λ (n : ℕ). n + recordsAdded false (inOrder (q .rtl) (lineOf (q .line)))) (length-line true (q .line))
+    ∙ ap (λ (n : ℕ). n + recordsAdded false (inOrder (q .rtl) (lineOf (q .line)))) (length-line (q .line))
 
 pub others-stay : OthersStay
 others-stay q output r left x z = ap (those isPlain) (records-left q output r left x z) ∙ line-plain q

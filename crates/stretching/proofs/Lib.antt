@@ -2,5 +2,4 @@
 -- Assumes nothing.
 pub mod StretchingLaws
 pub mod StretchExamples
-pub mod WriteLaws
 pub mod CallLaws

@@ -1,4 +1,4 @@
--- `stretching::write` meets its contract: what the records still to come become makes the columns what they are to be.
+-- `writing::write` meets its contract: what the records still to come become makes the columns what they are to be.
 -- Assumes nothing.
 use mathlib.Core.Path.{refl}
 use mathlib.Core.Bool.{false}
@@ -11,9 +11,9 @@ use Rattle.runs.specs.Measured.{Even, Lent}
 use Rattle.laying.specs.Laid.{laid}
 use Rattle.placing.specs.Placed.{EvenTiles, bare}
 use Rattle.laying.proofs.LaidLaws.{roomy-same}
-use Rattle.stretching.proofs.WriteLaws.{Writing, writing-starts, next-fits, past-fits, past-above, kept-fits, room-kept, run-has-room, writing-next, writing-ends}
-use Rattle.stretching.proofs.write.Statement.{statement}
-use Rattle.stretching.proofs.write.Tie as tie
+use Rattle.writing.proofs.WriteLaws.{Writing, writing-starts, next-fits, past-fits, past-above, kept-fits, room-kept, run-has-room, writing-next, writing-ends}
+use Rattle.writing.proofs.write.Statement.{statement}
+use Rattle.writing.proofs.write.Tie as tie
 
 abbrev Inv-loop : tie.InvT-loop
 Inv-loop rtl glyphs widths categories ignorables actions advances offsets m to-glyphs₀ to-widths₀ to-categories₀ to-ignorables₀ to-actions₀ to-advances₀ to-offsets₀ n at₀ k₀ to-glyphs to-widths to-categories to-ignorables to-actions to-advances to-offsets at k =

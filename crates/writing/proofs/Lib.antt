@@ -1,0 +1,3 @@
+-- The laws of `writing`.
+-- Assumes nothing.
+pub mod WriteLaws

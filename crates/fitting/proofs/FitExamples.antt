@@ -1,4 +1,4 @@
--- Fits of document 01's worked examples, and of READINGS 7 and 8, computed from the definition. A room of 10 and one tile, where nothing else is said.
+-- Fits of document 01's worked examples, and of the ends of the ranges, computed from the definition. A room of 10 and one tile, where nothing else is said.
 -- Assumes nothing.
 use mathlib.Core.Path.{_≡_, refl}
 use Prim.Native.Nat.{ℕ}
@@ -19,7 +19,7 @@ tile-exact : fitOf (pos 10) (pos 5) 1 ≡ fit 1 (pos 0) (pos 5)
 unfolding fitOf copies overlap start squeezed excess added whole count
 tile-exact = refl
 
--- "Repeating tile 0": one copy, from the middle; so a tile of -4 (READINGS 8)
+-- "Repeating tile 0": one copy, from the middle; so a tile of -4
 tile-without-width : fitOf (pos 10) (pos 0) 1 ≡ fit 1 (pos 0) (pos 5)
 unfolding fitOf copies overlap start squeezed excess added whole count
 tile-without-width = refl
@@ -33,7 +33,7 @@ room-below-zero : fitOf (negsuc 2) (pos 0) 0 ≡ fit 0 (pos 0) (negsuc 0)
 unfolding fitOf copies overlap start squeezed excess added whole count
 room-below-zero = refl
 
--- the largest room, a tile of 2 ^ 30: products and excess are exact (READINGS 7)
+-- the largest room, a tile of 2 ^ 30: products and excess are exact
 room-largest : fitOf (pos 2147483647) (pos 1073741824) 1 ≡ fit 1 (pos 1) (pos 0)
 unfolding fitOf copies overlap start squeezed excess added whole count
 room-largest = refl

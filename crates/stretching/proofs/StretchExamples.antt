@@ -1,4 +1,4 @@
--- Small lines stretched, computed: document 01's worked examples, those of READINGS 7 and 8, and what a refused call leaves.
+-- Small lines stretched, computed: document 01's worked examples, tiles of a width below 0, the largest numbers, and what a refused call leaves.
 -- Assumes nothing.
 use mathlib.Core.Path.{_≡_, refl}
 use mathlib.Core.Bool.{Bool, true, false}

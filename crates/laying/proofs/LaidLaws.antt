@@ -13,8 +13,10 @@ use Rattle.laws.proofs.PartLaws.{take-map, drop-map}
 use Rattle.runs.specs.Records.{Record, Columns, columns, lineOf}
 use Rattle.runs.specs.Stretched.{inOrder, partOf, work}
 use Rattle.runs.proofs.RecordLaws.{length-in-order, order-none, order-one, part-in-order, map-in-order, part-fits, length-line, column-of}
-use Rattle.laying.specs.Laid.{pasted, laidOn, laid, EvenLine, Roomy}
-use Rattle.laying.proofs.PasteLaws.{length-pasted, paste-none, paste-one, paste-behind, paste-before}
+use Rattle.copying.specs.Pasted.{pasted, pastedAll, EvenLine, Roomy}
+use Rattle.laying.specs.Laid.{laidOn, laid}
+use Rattle.copying.proofs.ColumnsLaws.{columns-same, SameLengths}
+use Rattle.copying.proofs.PasteLaws.{length-pasted, paste-none, paste-one, paste-behind, paste-before}
 
 module _ {A : Type 0} (f : Record → A) (rtl : Bool) (m : ℕ) where
   -- as many elements as records
@@ -85,11 +87,6 @@ copied-on {A} f rtl m at c source column e k s i o h ei eo =
     ap₂ (λ (p : List A) (j : ℕ). pasted p j column) part (eo ∙ ap (partOf rtl m at) (sym long))
 
 -- ---- all seven columns
-pub columns-same :
-    {g g′ : List ℕ} {w w′ : List ℤ} {c c′ i i′ a a′ : List ℕ} {d d′ o o′ : List ℤ} → g ≡ g′ → w ≡ w′ → c ≡ c′ → i ≡ i′ → a ≡ a′ → d ≡ d′ → o ≡ o′
-    → columns g w c i a d o ≡ columns g′ w′ c′ i′ a′ d′ o′
-columns-same p q r s t u v = cc
-
 module _ (rtl : Bool) (m : ℕ) (c : Columns) where
   pub laid-none : (k : ℕ) → laid rtl m k [] c ≡ c
   unfolding laid
@@ -128,9 +125,9 @@ module _ (rtl : Bool) (m : ℕ) (c : Columns) where
 -- a part of the line, in all columns
 pub copied-part :
     (rtl : Bool) (m at k s i o : ℕ) (c b : Columns) → EvenLine c → k + s ≤ length (c .actions) → i ≡ partOf rtl (length (c .actions)) k s → o ≡ partOf rtl m at s
-    → columns (pasted (slice i (i + s) (c .glyphs)) o (b .glyphs)) (pasted (slice i (i + s) (c .widths)) o (b .widths)) (pasted (slice i (i + s) (c .categories)) o (b .categories)) (pasted (slice i (i + s) (c .ignorables)) o (b .ignorables)) (pasted (slice i (i + s) (c .actions)) o (b .actions)) (pasted (slice i (i + s) (c .advances)) o (b .advances)) (pasted (slice i (i + s) (c .offsets)) o (b .offsets))
+    → pastedAll i s c o b
     ≡ laid rtl m at (take s (drop k (work rtl c))) b
-unfolding laid
+unfolding laid pastedAll
 copied-part rtl m at k s i o c b e h ei eo =
     columns-same
     (copied-on (λ (q : Record). q .glyph) rtl m at c (c .glyphs) (b .glyphs) (column-of (λ (q : Record). q .glyph) c (c .glyphs) (e .evenGlyphs) (λ j. refl)) k s i o h ei eo)
@@ -140,19 +137,6 @@ copied-part rtl m at k s i o c b e h ei eo =
     (copied-on (λ (q : Record). q .action) rtl m at c (c .actions) (b .actions) (column-of (λ (q : Record). q .action) c (c .actions) refl (λ j. refl)) k s i o h ei eo)
     (copied-on (λ (q : Record). q .advance) rtl m at c (c .advances) (b .advances) (column-of (λ (q : Record). q .advance) c (c .advances) (e .evenAdvances) (λ j. refl)) k s i o h ei eo)
     (copied-on (λ (q : Record). q .offset) rtl m at c (c .offsets) (b .offsets) (column-of (λ (q : Record). q .offset) c (c .offsets) (e .evenOffsets) (λ j. refl)) k s i o h ei eo)
-
--- the columns have the lengths that they had
-pub record SameLengths (b c : Columns) : Type 0 where
-  pub sameGlyphs : length (c .glyphs) ≡ length (b .glyphs)
-  pub sameWidths : length (c .widths) ≡ length (b .widths)
-  pub sameCategories : length (c .categories) ≡ length (b .categories)
-  pub sameIgnorables : length (c .ignorables) ≡ length (b .ignorables)
-  pub sameActions : length (c .actions) ≡ length (b .actions)
-  pub sameAdvances : length (c .advances) ≡ length (b .advances)
-  pub sameOffsets : length (c .offsets) ≡ length (b .offsets)
-
-pub same-lengths : (c : Columns) → SameLengths c c
-same-lengths c = record { sameGlyphs = refl; sameWidths = refl; sameCategories = refl; sameIgnorables = refl; sameActions = refl; sameAdvances = refl; sameOffsets = refl }
 
 pub lengths-laid : (rtl : Bool) (m k : ℕ) (l : List Record) (c : Columns) → Roomy m c → k + length l ≤ m → SameLengths c (laid rtl m k l c)
 unfolding laid
@@ -164,26 +148,4 @@ lengths-laid rtl m k l c h g = record {
   sameActions = length-laid-on (λ (q : Record). q .action) rtl m k l (c .actions) g (h .forActions);
   sameAdvances = length-laid-on (λ (q : Record). q .advance) rtl m k l (c .advances) g (h .forAdvances);
   sameOffsets = length-laid-on (λ (q : Record). q .offset) rtl m k l (c .offsets) g (h .forOffsets);
-}
-
-pub lengths-then : {a b c : Columns} → SameLengths a b → SameLengths b c → SameLengths a c
-lengths-then s t = record {
-  sameGlyphs = t .sameGlyphs ∙ s .sameGlyphs;
-  sameWidths = t .sameWidths ∙ s .sameWidths;
-  sameCategories = t .sameCategories ∙ s .sameCategories;
-  sameIgnorables = t .sameIgnorables ∙ s .sameIgnorables;
-  sameActions = t .sameActions ∙ s .sameActions;
-  sameAdvances = t .sameAdvances ∙ s .sameAdvances;
-  sameOffsets = t .sameOffsets ∙ s .sameOffsets;
-}
-
-pub roomy-same : {m : ℕ} {b c : Columns} → SameLengths b c → Roomy m b → Roomy m c
-roomy-same s h = record {
-  forGlyphs = rw (s .sameGlyphs) (h .forGlyphs);
-  forWidths = rw (s .sameWidths) (h .forWidths);
-  forCategories = rw (s .sameCategories) (h .forCategories);
-  forIgnorables = rw (s .sameIgnorables) (h .forIgnorables);
-  forActions = rw (s .sameActions) (h .forActions);
-  forAdvances = rw (s .sameAdvances) (h .forAdvances);
-  forOffsets = rw (s .sameOffsets) (h .forOffsets);
 }

@@ -1,4 +1,3 @@
 -- The laws of `laying`.
 -- Assumes nothing.
-pub mod PasteLaws
 pub mod LaidLaws

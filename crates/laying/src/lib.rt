@@ -2,47 +2,15 @@
 ghost use mathlib.Core.Path.{_≡_};
 ghost use Prim.Native.Nat.{_+_, _≤_};
 ghost use lib.ListN.{length, take, drop};
-ghost use lib.Seq.{slice};
 ghost use Rattle.runs.specs.Records.{columns};
 ghost use Rattle.runs.specs.Stretched.{work};
-ghost use Rattle.laying.specs.Laid.{pasted, laid, EvenLine, Roomy};
+ghost use Rattle.copying.specs.Pasted.{EvenLine, Roomy};
+ghost use Rattle.laying.specs.Laid.{laid};
 
-// Copies `s` bytes of a column from `i` on to another from `o` on. The next two do the same for numbers of 32 bits: there is no function over a type.
-fn copy_bytes(from: &[u8], i: usize, s: usize, to: &mut [u8], o: usize)
-    requires { ⌜ (i + s ≤ length (now from)) × (o + s ≤ length (now to)) ⌝ }
-    ensures { λ _. ⌜ now (to .exit) ≡ pasted (slice i (i + s) (now (from .entry))) o (now (to .entry)) ⌝ }
-{
-    let mut j = 0;
-    while j < s {
-        to[o + j] = from[i + j];
-        j += 1;
-    }
-}
+// Fewer records than this are copied record by record, which takes fewer instructions then.
+const FEW: usize = 8;
 
-fn copy_numbers(from: &[u32], i: usize, s: usize, to: &mut [u32], o: usize)
-    requires { ⌜ (i + s ≤ length (now from)) × (o + s ≤ length (now to)) ⌝ }
-    ensures { λ _. ⌜ now (to .exit) ≡ pasted (slice i (i + s) (now (from .entry))) o (now (to .entry)) ⌝ }
-{
-    let mut j = 0;
-    while j < s {
-        to[o + j] = from[i + j];
-        j += 1;
-    }
-}
-
-fn copy_signed(from: &[i32], i: usize, s: usize, to: &mut [i32], o: usize)
-    requires { ⌜ (i + s ≤ length (now from)) × (o + s ≤ length (now to)) ⌝ }
-    ensures { λ _. ⌜ now (to .exit) ≡ pasted (slice i (i + s) (now (from .entry))) o (now (to .entry)) ⌝ }
-{
-    let mut j = 0;
-    while j < s {
-        let x = runs::at(from, i + j);
-        to[o + j] = x;
-        j += 1;
-    }
-}
-
-// Copies the `s` records that come from the `k`-th on in the order of the work, to the places from the `at`-th of `m` on. Each column is copied for itself: the compiler then copies many numbers at once.
+// Copies the `s` records that come from the `k`-th on in the order of the work, to the places from the `at`-th of `m` on.
 pub fn keep(
     rtl: bool,
     k: usize,
@@ -73,11 +41,45 @@ pub fn keep(
 {
     let i = runs::part(rtl, actions.len(), k, s);
     let o = runs::part(rtl, m, at, s);
-    copy_numbers(glyphs, i, s, to_glyphs, o);
-    copy_signed(widths, i, s, to_widths, o);
-    copy_bytes(categories, i, s, to_categories, o);
-    copy_bytes(ignorables, i, s, to_ignorables, o);
-    copy_bytes(actions, i, s, to_actions, o);
-    copy_signed(advances, i, s, to_advances, o);
-    copy_signed(offsets, i, s, to_offsets, o);
+    if s < FEW {
+        copying::copy_records(
+            i,
+            s,
+            glyphs,
+            widths,
+            categories,
+            ignorables,
+            actions,
+            advances,
+            offsets,
+            o,
+            to_glyphs,
+            to_widths,
+            to_categories,
+            to_ignorables,
+            to_actions,
+            to_advances,
+            to_offsets,
+        );
+    } else {
+        copying::copy_columns(
+            i,
+            s,
+            glyphs,
+            widths,
+            categories,
+            ignorables,
+            actions,
+            advances,
+            offsets,
+            o,
+            to_glyphs,
+            to_widths,
+            to_categories,
+            to_ignorables,
+            to_actions,
+            to_advances,
+            to_offsets,
+        );
+    }
 }

@@ -11,9 +11,11 @@ use Rattle.runs.specs.declared.Tile.{Tile}
 use Rattle.runs.specs.Records.{Record, Columns, columns, put}
 use Rattle.runs.specs.Stretched.{partOf, Piece, piece, pieces, moved, next, offsetAt, placed}
 use Rattle.runs.proofs.StretchedLaws.{length-placed}
-use Rattle.laying.specs.Laid.{laid, Roomy}
+use Rattle.copying.specs.Pasted.{Roomy}
+use Rattle.laying.specs.Laid.{laid}
 use Rattle.placing.specs.Placed.{after}
-use Rattle.laying.proofs.LaidLaws.{laid-none, laid-one, laid-then, SameLengths, same-lengths, lengths-laid, lengths-then, roomy-same}
+use Rattle.copying.proofs.ColumnsLaws.{SameLengths, same-lengths, lengths-then, roomy-same}
+use Rattle.laying.proofs.LaidLaws.{laid-none, laid-one, laid-then, lengths-laid}
 
 -- of a tile, n pieces: the first overlaps by lap, the others by `overlap`
 abbrev pub laps : Tile → ℤ → ℤ → ℕ → List Piece

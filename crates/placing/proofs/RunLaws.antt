@@ -15,9 +15,11 @@ use Rattle.runs.specs.Records.{Record, Columns, recordAt, kept, put}
 use Rattle.runs.specs.Stretched.{work, partOf, Piece, pieces, copiesFor, runPieces, placed, next, offsetAt}
 use Rattle.runs.proofs.RecordLaws.{blank, length-work, work-at}
 use Rattle.runs.proofs.StretchedLaws.{length-placed, length-pieces}
-use Rattle.laying.specs.Laid.{laid, Roomy}
+use Rattle.copying.specs.Pasted.{Roomy}
+use Rattle.laying.specs.Laid.{laid}
 use Rattle.placing.specs.Placed.{after}
-use Rattle.laying.proofs.LaidLaws.{laid-none, laid-then, SameLengths, same-lengths, lengths-laid, lengths-then, roomy-same}
+use Rattle.copying.proofs.ColumnsLaws.{SameLengths, same-lengths, lengths-then, roomy-same}
+use Rattle.laying.proofs.LaidLaws.{laid-none, laid-then, lengths-laid}
 
 pub placed-append : (rtl : Bool) (x : ℤ) (ps qs : List Piece) → placed rtl x (ps ++ qs) ≡ placed rtl x ps ++ placed rtl (after rtl x ps) qs
 unfolding placed after

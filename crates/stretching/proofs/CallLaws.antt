@@ -19,7 +19,8 @@ use Rattle.runs.specs.Records.{Record, Columns, lineOf}
 use Rattle.runs.specs.Stretched.{inOrder, work, worked, stretched}
 use Rattle.runs.proofs.RecordLaws.{length-in-order, order-twice, length-line, length-work}
 use Rattle.laying.specs.Laid.{laid}
-use Rattle.laying.proofs.LaidLaws.{laid-on-whole, columns-same}
+use Rattle.copying.proofs.ColumnsLaws.{columns-same}
+use Rattle.laying.proofs.LaidLaws.{laid-on-whole}
 use Rattle.stretching.specs.Stretching.{Request, stretchedLimit, newLine, unequal, shorter, rowsOf, stretchRows, stretchRefusal, judged, laidOver}
 
 pub length-recorded : (rtl : Bool) (c : Columns) → length (stretched rtl (lineOf c)) ≡ length (worked rtl false (work rtl c))

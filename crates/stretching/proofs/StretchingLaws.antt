@@ -18,7 +18,7 @@ use Rattle.refusals.proofs.LeftLaws.{alike, left-number, left-stays, left-accep
 use Rattle.letters.specs.Categories.{Zs}
 use Rattle.letters.specs.Actions.{repeating}
 use Rattle.runs.specs.Records.{Columns}
-use Rattle.laying.specs.Laid.{EvenLine, Roomy}
+use Rattle.copying.specs.Pasted.{EvenLine, Roomy}
 use Rattle.stretching.specs.declared.Answer.{Answer}
 use Rattle.stretching.specs.declared.Answer.the-variants.{Stretched}
 use Rattle.stretching.specs.Stretching.{stretchedLimit, Request, Outcome, outcome, newLine, laidOver, unequal, shorter, stretchRefusal, numberSaid, lengthSaid, stretchAfter, Stretching}

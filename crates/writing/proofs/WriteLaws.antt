@@ -24,9 +24,11 @@ use Rattle.runs.proofs.RecordLaws.{map-in-order, map-listed, length-work}
 use Rattle.runs.proofs.MeasuredLaws.{past-is, run-fits, plain-fits}
 use Rattle.runs.proofs.CountLaws.{next-is}
 use Rattle.runs.proofs.StretchedLaws.{AtRun, at-run, run-some, worked-skips, worked-at-run, length-placed}
-use Rattle.laying.specs.Laid.{laid, Roomy}
+use Rattle.copying.specs.Pasted.{Roomy}
+use Rattle.laying.specs.Laid.{laid}
 use Rattle.placing.specs.Placed.{bare, piecesFrom}
-use Rattle.laying.proofs.LaidLaws.{laid-none, laid-then, SameLengths, same-lengths, lengths-laid, lengths-then, roomy-same}
+use Rattle.copying.proofs.ColumnsLaws.{SameLengths, same-lengths, lengths-then, roomy-same}
+use Rattle.laying.proofs.LaidLaws.{laid-none, laid-then, lengths-laid}
 
 -- ---- pieces are of tiles
 -- the number of copies, by the tile

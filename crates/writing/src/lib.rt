@@ -7,7 +7,8 @@ ghost use Rattle.refusals.specs.Columns.{lineLimit, atMost};
 ghost use Rattle.letters.specs.Actions.{repeating};
 ghost use Rattle.runs.specs.Records.{columns};
 ghost use Rattle.runs.specs.Stretched.{work, worked};
-ghost use Rattle.laying.specs.Laid.{laid, EvenLine, Roomy};
+ghost use Rattle.copying.specs.Pasted.{EvenLine, Roomy};
+ghost use Rattle.laying.specs.Laid.{laid};
 
 // The whole work: the records before a run are kept, the run is placed, and so on to the end. The stretched line has `m` records.
 pub fn write(

@@ -1,12 +1,12 @@
--- `laying::keep` meets its contract: each column has its part copied to where that comes.
+-- `laying::keep` meets its contract: the part is copied to where it comes, in one way or the other.
 -- Assumes nothing.
 use mathlib.Core.Path.{_∙_}
 use Prim.Native.Nat.{_+_, _≤_}
-use native.Mathlib.Omega.{arith}
 use lib.ListN.{length}
 use Rattle.runs.specs.Records.{columns}
 use Rattle.runs.proofs.RecordLaws.{part-fits}
-use Rattle.laying.proofs.LaidLaws.{columns-same, copied-part}
+use Rattle.copying.proofs.ColumnsLaws.{roomy-less}
+use Rattle.laying.proofs.LaidLaws.{copied-part}
 use borrow.Author.Needs.{needs}
 use Rattle.laying.proofs.keep.Statement.{statement}
 use Rattle.laying.proofs.keep.Tie as tie
@@ -23,40 +23,17 @@ part-requires c κs = search needs
 part-requires-2 : tie.Need-part-requires-2
 part-requires-2 c κs = search needs
 
-copy-numbers-requires : tie.Need-copy-numbers-requires
-copy-numbers-requires c κs =
-    let w = within (c .before) in
-    (omega (arith, w .0, c .before .before .before .before .before .before .before .before .before .before .before .pre .1 .0 .evenGlyphs), omega (arith, w .1, c .before .before .before .before .before .before .before .before .before .before .before .pre .1 .1 .forGlyphs))
-
-copy-signed-requires : tie.Need-copy-signed-requires
-copy-signed-requires c κs =
-    let w = within (c .before .before .before .before .before) in
-    (omega (arith, w .0, c .before .before .before .before .before .before .before .before .before .before .before .before .before .before .before .pre .1 .0 .evenWidths), omega (arith, w .1, c .before .before .before .before .before .before .before .before .before .before .before .before .before .before .before .pre .1 .1 .forWidths))
-
-copy-bytes-requires : tie.Need-copy-bytes-requires
-copy-bytes-requires c κs =
+copy-records-requires : tie.Need-copy-records-requires
+copy-records-requires c κs =
+    let s = c .before .before .before .before .before .before .before .before .before .before .before .before .before .before .before .before .before .before in
     let w = within (c .before .before .before .before .before .before .before .before) in
-    (omega (arith, w .0, c .before .before .before .before .before .before .before .before .before .before .before .before .before .before .before .before .before .before .pre .1 .0 .evenCategories), omega (arith, w .1, c .before .before .before .before .before .before .before .before .before .before .before .before .before .before .before .before .before .before .pre .1 .1 .forCategories))
+    (w .0, (s .pre .1 .0, roomy-less (w .1) (s .pre .1 .1)))
 
-copy-bytes-requires-2 : tie.Need-copy-bytes-requires-2
-copy-bytes-requires-2 c κs =
-    let w = within (c .before .before .before .before .before .before .before .before .before .before .before .before) in
-    (omega (arith, w .0, c .before .before .before .before .before .before .before .before .before .before .before .before .before .before .before .before .before .before .before .before .before .before .pre .1 .0 .evenIgnorables), omega (arith, w .1, c .before .before .before .before .before .before .before .before .before .before .before .before .before .before .before .before .before .before .before .before .before .before .pre .1 .1 .forIgnorables))
-
-copy-bytes-requires-3 : tie.Need-copy-bytes-requires-3
-copy-bytes-requires-3 c κs =
-    let w = within (c .before .before .before .before .before .before .before .before .before .before .before .before .before .before .before .before) in
-    (omega (arith, w .0), omega (arith, w .1, c .before .before .before .before .before .before .before .before .before .before .before .before .before .before .before .before .before .before .before .before .before .before .before .before .before .before .pre .1 .1 .forActions))
-
-copy-signed-requires-2 : tie.Need-copy-signed-requires-2
-copy-signed-requires-2 c κs =
-    let w = within (c .before .before .before .before .before .before .before .before .before .before .before .before .before .before .before .before .before .before .before .before) in
-    (omega (arith, w .0, c .before .before .before .before .before .before .before .before .before .before .before .before .before .before .before .before .before .before .before .before .before .before .before .before .before .before .before .before .before .before .pre .1 .0 .evenAdvances), omega (arith, w .1, c .before .before .before .before .before .before .before .before .before .before .before .before .before .before .before .before .before .before .before .before .before .before .before .before .before .before .before .before .before .before .pre .1 .1 .forAdvances))
-
-copy-signed-requires-3 : tie.Need-copy-signed-requires-3
-copy-signed-requires-3 c κs =
-    let w = within (c .before .before .before .before .before .before .before .before .before .before .before .before .before .before .before .before .before .before .before .before .before .before .before) in
-    (omega (arith, w .0, c .before .before .before .before .before .before .before .before .before .before .before .before .before .before .before .before .before .before .before .before .before .before .before .before .before .before .before .before .before .before .before .before .before .pre .1 .0 .evenOffsets), omega (arith, w .1, c .before .before .before .before .before .before .before .before .before .before .before .before .before .before .before .before .before .before .before .before .before .before .before .before .before .before .before .before .before .before .before .before .before .pre .1 .1 .forOffsets))
+copy-columns-requires : tie.Need-copy-columns-requires
+copy-columns-requires c κs =
+    let s = c .before .before .before .before .before .before .before .before .before .before .before .before .before .before .before .before .before .before in
+    let w = within (c .before .before .before .before .before .before .before .before) in
+    (w .0, (s .pre .1 .0, roomy-less (w .1) (s .pre .1 .1)))
 
 same-length : tie.Need-same-length
 same-length c = search needs
@@ -81,18 +58,40 @@ same-length-7 c = search needs
 
 returns : tie.Need-returns
 returns c =
-    let a = c .before .before .before .before .before .before .before .before .before .before .before .before .before .before .before .before .before .before .before .before .before .before .before .before .before .before .before .before .before .before .before .before .before .before .before .args in
-    columns-same
-    (c .before .before .before .before .before .before .before .before .before .before .before .before .before .before .before .before .before .before .before .before .before .before .before .copy-numbers .ensures)
-    (c .before .before .before .before .before .before .before .before .before .before .before .before .before .before .before .before .before .before .before .copy-signed .ensures)
-    (c .before .before .before .before .before .before .before .before .before .before .before .before .before .before .before .before .copy-bytes .ensures)
-    (c .before .before .before .before .before .before .before .before .before .before .before .before .copy-bytes2 .ensures)
-    (c .before .before .before .before .before .before .before .before .copy-bytes3 .ensures)
-    (c .before .before .before .before .copy-signed2 .ensures)
-    (c .before .copy-signed3 .ensures)
-    ∙ copied-part (a .rtl) (a .m) (a .at) (a .k) (a .s) (c .before .before .before .before .before .before .before .before .before .before .before .before .before .before .before .before .before .before .before .before .before .before .before .before .before .before .part .result) (c .before .before .before .before .before .before .before .before .before .before .before .before .before .before .before .before .before .before .before .before .before .before .before .before .before .part2 .result)
-    (columns (a .glyphs .now) (a .widths .now) (a .categories .now) (a .ignorables .now) (a .actions .now) (a .advances .now) (a .offsets .now)) _
-    (c .before .before .before .before .before .before .before .before .before .before .before .before .before .before .before .before .before .before .before .before .before .before .before .before .before .before .before .before .before .before .before .before .before .before .before .pre .1 .0) (c .before .before .before .before .before .before .before .before .before .before .before .before .before .before .before .before .before .before .before .before .before .before .before .before .before .before .before .before .before .before .before .before .before .before .before .pre .0 .0) (c .before .before .before .before .before .before .before .before .before .before .before .before .before .before .before .before .before .before .before .before .before .before .before .before .before .before .part .ensures) (c .before .before .before .before .before .before .before .before .before .before .before .before .before .before .before .before .before .before .before .before .before .before .before .before .before .part2 .ensures)
+    let s = c .before .before .before .before .before .before .before .before .before .before .before .before .before .before .before .before .before .before .before .before .before .before .before .before .before .before .before .before .before .before in
+    let a = s .args in
+    c .before .before .before .before .before .before .before .before .before .before .before .copy-records .ensures
+    ∙ copied-part (a .rtl) (a .m) (a .at) (a .k) (a .s) (c .before .before .before .before .before .before .before .before .before .before .before .before .before .before .before .before .before .before .before .before .before .part .result) (c .before .before .before .before .before .before .before .before .before .before .before .before .before .before .before .before .before .before .before .before .part2 .result) (columns (a .glyphs .now) (a .widths .now) (a .categories .now) (a .ignorables .now) (a .actions .now) (a .advances .now) (a .offsets .now)) _
+    (s .pre .1 .0) (s .pre .0 .0) (c .before .before .before .before .before .before .before .before .before .before .before .before .before .before .before .before .before .before .before .before .before .part .ensures) (c .before .before .before .before .before .before .before .before .before .before .before .before .before .before .before .before .before .before .before .before .part2 .ensures)
+
+same-length-8 : tie.Need-same-length-8
+same-length-8 c = search needs
+
+same-length-9 : tie.Need-same-length-9
+same-length-9 c = search needs
+
+same-length-10 : tie.Need-same-length-10
+same-length-10 c = search needs
+
+same-length-11 : tie.Need-same-length-11
+same-length-11 c = search needs
+
+same-length-12 : tie.Need-same-length-12
+same-length-12 c = search needs
+
+same-length-13 : tie.Need-same-length-13
+same-length-13 c = search needs
+
+same-length-14 : tie.Need-same-length-14
+same-length-14 c = search needs
+
+returns-2 : tie.Need-returns-2
+returns-2 c =
+    let s = c .before .before .before .before .before .before .before .before .before .before .before .before .before .before .before .before .before .before .before .before .before .before .before .before .before .before .before .before .before .before in
+    let a = s .args in
+    c .before .before .before .before .before .before .before .before .before .before .before .copy-columns .ensures
+    ∙ copied-part (a .rtl) (a .m) (a .at) (a .k) (a .s) (c .before .before .before .before .before .before .before .before .before .before .before .before .before .before .before .before .before .before .before .before .before .part .result) (c .before .before .before .before .before .before .before .before .before .before .before .before .before .before .before .before .before .before .before .before .part2 .result) (columns (a .glyphs .now) (a .widths .now) (a .categories .now) (a .ignorables .now) (a .actions .now) (a .advances .now) (a .offsets .now)) _
+    (s .pre .1 .0) (s .pre .0 .0) (c .before .before .before .before .before .before .before .before .before .before .before .before .before .before .before .before .before .before .before .before .before .part .ensures) (c .before .before .before .before .before .before .before .before .before .before .before .before .before .before .before .before .before .before .before .before .part2 .ensures)
 
 pub keep-spec : {M : Type 1} → statement M
 keep-spec =
@@ -100,13 +99,8 @@ keep-spec =
     (tie.spec
     part-requires
     part-requires-2
-    copy-numbers-requires
-    copy-signed-requires
-    copy-bytes-requires
-    copy-bytes-requires-2
-    copy-bytes-requires-3
-    copy-signed-requires-2
-    copy-signed-requires-3
+    copy-records-requires
+    copy-columns-requires
     same-length
     same-length-2
     same-length-3
@@ -114,4 +108,12 @@ keep-spec =
     same-length-5
     same-length-6
     same-length-7
-    returns)
+    returns
+    same-length-8
+    same-length-9
+    same-length-10
+    same-length-11
+    same-length-12
+    same-length-13
+    same-length-14
+    returns-2)

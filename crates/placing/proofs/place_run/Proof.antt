@@ -13,7 +13,7 @@ use Rattle.runs.specs.Stretched.{work, runPieces, placed}
 use Rattle.runs.proofs.RecordLaws.{spot-below}
 use Rattle.laying.specs.Laid.{laid}
 use Rattle.placing.specs.Placed.{bare, piecesFrom}
-use Rattle.laying.proofs.LaidLaws.{roomy-same}
+use Rattle.copying.proofs.ColumnsLaws.{roomy-same}
 use Rattle.placing.proofs.RunLaws.{Running, running-starts, running-fits, running-next, running-ends, tile-is}
 use borrow.Author.Needs.{needs}
 use Rattle.placing.proofs.place_run.Statement.{statement}

@@ -9,9 +9,10 @@ use Rattle.fitting.proofs.SignedLaws.{back}
 use Rattle.runs.specs.Records.{columns}
 use Rattle.runs.specs.Stretched.{pieces, placed}
 use Rattle.runs.proofs.RecordLaws.{spot-below}
-use Rattle.laying.specs.Laid.{laid, Roomy}
+use Rattle.copying.specs.Pasted.{Roomy}
+use Rattle.laying.specs.Laid.{laid}
 use Rattle.placing.specs.Placed.{after}
-use Rattle.laying.proofs.LaidLaws.{roomy-same}
+use Rattle.copying.proofs.ColumnsLaws.{roomy-same}
 use Rattle.placing.proofs.PlaceLaws.{Laying, laying-starts, laying-next, laying-ends}
 use borrow.Author.Needs.{needs}
 use Rattle.placing.proofs.place_tile.Statement.{statement}

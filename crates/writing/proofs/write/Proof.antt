@@ -10,7 +10,7 @@ use Rattle.runs.specs.Stretched.{work, worked}
 use Rattle.runs.specs.Measured.{Even, Lent}
 use Rattle.laying.specs.Laid.{laid}
 use Rattle.placing.specs.Placed.{EvenTiles, bare}
-use Rattle.laying.proofs.LaidLaws.{roomy-same}
+use Rattle.copying.proofs.ColumnsLaws.{roomy-same}
 use Rattle.writing.proofs.WriteLaws.{Writing, writing-starts, next-fits, past-fits, past-above, kept-fits, room-kept, run-has-room, writing-next, writing-ends}
 use Rattle.writing.proofs.write.Statement.{statement}
 use Rattle.writing.proofs.write.Tie as tie

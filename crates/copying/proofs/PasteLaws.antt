@@ -8,7 +8,7 @@ use native.Mathlib.Omega.{arith}
 use lib.ListN.{length, getD, take, drop, set, take-append-drop, length-append, length-drop, length-set}
 use lib.Seq.{slice, slice-cons, slice-empty, length-take-le, length-slice, split-at, take-at, drop-at, set-at, drop-drop}
 use Rattle.laws.proofs.PartLaws.{drop-parted, three-parts}
-use Rattle.laying.specs.Laid.{pasted}
+use Rattle.copying.specs.Pasted.{pasted}
 
 module _ {A : Type 0} where
   pub length-pasted : (P : List A) (i : ℕ) (l : List A) → i + length P ≤ length l → length (pasted P i l) ≡ length l

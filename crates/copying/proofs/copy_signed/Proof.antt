@@ -1,4 +1,4 @@
--- `laying::copy_signed` meets its contract: what is left of the part, pasted, makes the whole.
+-- `copying::copy_signed` meets its contract: what is left of the part, pasted, makes the whole.
 -- Assumes nothing.
 use Prim.Native.Nat.{_-_}
 use lib.IntN.{pos}
@@ -6,9 +6,9 @@ use mir.Syntax.{w32}
 use mir.Val.{SFits}
 use Rattle.fitting.proofs.SignedLaws.{back}
 use native.Mathlib.Omega.{arith}
-use Rattle.laying.proofs.PasteLaws.{Copying, copying-starts, copying-next, copying-ends}
-use Rattle.laying.proofs.copy_signed.Statement.{statement}
-use Rattle.laying.proofs.copy_signed.Tie as tie
+use Rattle.copying.proofs.PasteLaws.{Copying, copying-starts, copying-next, copying-ends}
+use Rattle.copying.proofs.copy_signed.Statement.{statement}
+use Rattle.copying.proofs.copy_signed.Tie as tie
 
 abbrev Inv-loop : tie.InvT-loop
 Inv-loop from i s to₀ o j₀ to j = Copying from to₀ i s o j to

@@ -1,11 +1,11 @@
--- `laying::copy_numbers` meets its contract: what is left of the part, pasted, makes the whole.
+-- `copying::copy_bytes` meets its contract: what is left of the part, pasted, makes the whole.
 -- Assumes nothing.
 use mathlib.Core.Path.{refl}
 use Prim.Native.Nat.{_-_}
 use native.Mathlib.Omega.{arith}
-use Rattle.laying.proofs.PasteLaws.{Copying, copying-starts, copying-next, copying-ends}
-use Rattle.laying.proofs.copy_numbers.Statement.{statement}
-use Rattle.laying.proofs.copy_numbers.Tie as tie
+use Rattle.copying.proofs.PasteLaws.{Copying, copying-starts, copying-next, copying-ends}
+use Rattle.copying.proofs.copy_bytes.Statement.{statement}
+use Rattle.copying.proofs.copy_bytes.Tie as tie
 
 abbrev Inv-loop : tie.InvT-loop
 Inv-loop from i s to₀ o j₀ to j = Copying from to₀ i s o j to
@@ -19,17 +19,11 @@ loop-holds c = copying-starts _ _ _ _ _
 add-to : tie.Need-add-to Inv-loop μ-loop
 add-to c = omega arith
 
-mul-to : tie.Need-mul-to Inv-loop μ-loop
-mul-to c = omega arith
-
 shared-slice-read-to : tie.Need-shared-slice-read-to Inv-loop μ-loop
 shared-slice-read-to c = omega arith
 
 add-to-2 : tie.Need-add-to-2 Inv-loop μ-loop
 add-to-2 c = omega arith
-
-mul-to-2 : tie.Need-mul-to-2 Inv-loop μ-loop
-mul-to-2 c = omega arith
 
 slice-write-to : tie.Need-slice-write-to Inv-loop μ-loop
 slice-write-to c = omega arith
@@ -55,18 +49,16 @@ returns c =
     let a = t .before .args in
     copying-ends (a .from .now) _ (a .i) (a .s) (a .o) (t .loop .to) (t .loop .j) (t .loop .inv) (t .before .pre .0) (t .before .pre .1) (c .loop-test .left)
 
-pub copy-numbers-spec : {M : Type 1} → statement M
-copy-numbers-spec =
+pub copy-bytes-spec : {M : Type 1} → statement M
+copy-bytes-spec =
     tie.close
     (tie.spec
     Inv-loop
     μ-loop
     loop-holds
     add-to
-    mul-to
     shared-slice-read-to
     add-to-2
-    mul-to-2
     slice-write-to
     add-j
     loop-less

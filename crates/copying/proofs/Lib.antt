@@ -1,0 +1,5 @@
+-- The laws of `copying`.
+-- Assumes nothing.
+pub mod PasteLaws
+pub mod ColumnsLaws
+pub mod CopyLaws

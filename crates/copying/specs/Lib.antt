@@ -1,0 +1,3 @@
+-- What the contracts of `copying` cite.
+-- Assumes nothing.
+pub mod Pasted

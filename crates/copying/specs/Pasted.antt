@@ -1,0 +1,43 @@
+-- Columns written over: `pasted` a part of one; `pastedAll` records copied, in each column; `EvenLine` that a line's columns are of one length, `Roomy` that an output's have room.
+-- Assumes nothing.
+use mathlib.Core.Path.{_≡_}
+use mathlib.Core.List.{List, _++_}
+use Prim.Native.Nat.{ℕ, _+_, _≤_}
+use lib.ListN.{length, take, drop}
+use lib.Seq.{slice}
+use Rattle.runs.specs.Records.{Columns, columns}
+
+-- a column with a part of it written over, from a place on
+unfoldable pub pasted : {A : Type 0} → List A → ℕ → List A → List A
+pasted part i column = take i column ++ (part ++ drop (i + length part) column)
+
+-- s records of a line from i on, written over those of an output from o on, in each column
+unfoldable pub pastedAll : ℕ → ℕ → Columns → ℕ → Columns → Columns
+pastedAll i s c o b =
+    columns
+    (pasted (slice i (i + s) (c .glyphs)) o (b .glyphs))
+    (pasted (slice i (i + s) (c .widths)) o (b .widths))
+    (pasted (slice i (i + s) (c .categories)) o (b .categories))
+    (pasted (slice i (i + s) (c .ignorables)) o (b .ignorables))
+    (pasted (slice i (i + s) (c .actions)) o (b .actions))
+    (pasted (slice i (i + s) (c .advances)) o (b .advances))
+    (pasted (slice i (i + s) (c .offsets)) o (b .offsets))
+
+-- a line's columns are of one length
+pub record EvenLine (c : Columns) : Type 0 where
+  pub evenGlyphs : length (c .glyphs) ≡ length (c .actions)
+  pub evenWidths : length (c .widths) ≡ length (c .actions)
+  pub evenCategories : length (c .categories) ≡ length (c .actions)
+  pub evenIgnorables : length (c .ignorables) ≡ length (c .actions)
+  pub evenAdvances : length (c .advances) ≡ length (c .actions)
+  pub evenOffsets : length (c .offsets) ≡ length (c .actions)
+
+-- each column has room for m records
+pub record Roomy (m : ℕ) (c : Columns) : Type 0 where
+  pub forGlyphs : m ≤ length (c .glyphs)
+  pub forWidths : m ≤ length (c .widths)
+  pub forCategories : m ≤ length (c .categories)
+  pub forIgnorables : m ≤ length (c .ignorables)
+  pub forActions : m ≤ length (c .actions)
+  pub forAdvances : m ≤ length (c .advances)
+  pub forOffsets : m ≤ length (c .offsets)

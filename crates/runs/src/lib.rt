@@ -136,24 +136,31 @@ fn is_tile(action: u8) -> bool
     (action == Action::FIXED.0) | (action == Action::REPEATING.0)
 }
 
-// The category is one of a word's. The whole list is searched: the compiler makes tests of single bits of that.
+// The category is one of a word's.
 fn is_word_category(category: u8) -> bool
     ensures { λ r. ⌜ r ≡ member category wordCategories ⌝ }
 {
-    let mut found = false;
     let mut i = 0;
     while i < 14 {
-        found = found | (WORD_CATEGORIES[i] == category);
+        if WORD_CATEGORIES[i] == category {
+            return true;
+        }
         i += 1;
     }
-    found
+    false
 }
 
 // A record with these numbers belongs to a word.
 fn in_word(action: u8, category: u8, ignorable: u8) -> bool
     ensures { λ r. ⌜ r ≡ wordNumbers action category ignorable ⌝ }
 {
-    !is_tile(action) & ((ignorable != 0) | is_word_category(category))
+    if is_tile(action) {
+        return false;
+    }
+    if ignorable != 0 {
+        return true;
+    }
+    is_word_category(category)
 }
 
 // The advances together of the word that begins at a place.

@@ -46,7 +46,7 @@ module _ (rtl : Bool) (m end : ℕ) (t : Tile) (overlap : ℤ) (start : Columns)
     pub laying-next :
         (room : Roomy m start) → end ≤ m → j < end → (i : ℕ) → i ≡ partOf rtl m j 1 → (y z : ℤ) → y ≡ moved rtl x (t .width) lap → z ≡ cond rtl y x
         → Laying rtl m end t overlap start goal last (j + 1) y overlap
-        (columns (set (c .glyphs) i (t .glyph)) (set (c .widths) i (t .width)) (set (c .categories) i (t .category)) (set (c .ignorables) i (t .ignorable)) (set (c .actions) i (t .action)) (set (c .advances) i (pos 0)) (set (c .offsets) i z))
+        (columns (set (c .glyphs) i (t .glyph .0)) (set (c .widths) i (t .width)) (set (c .categories) i (t .category)) (set (c .ignorables) i (t .ignorable)) (set (c .actions) i (t .action)) (set (c .advances) i (pos 0)) (set (c .offsets) i z))
     unfolding next offsetAt placed after
     laying-next room e h i at y z ey ez =
         let n : end - j ≡ suc (end - (j + 1)) = omega arith in

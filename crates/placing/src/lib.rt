@@ -11,6 +11,7 @@ ghost use Rattle.copying.specs.Pasted.{Roomy};
 ghost use Rattle.laying.specs.Laid.{laid};
 ghost use Rattle.placing.specs.Placed.{after, bare, EvenTiles, piecesFrom};
 use letters::Action;
+use letters::Glyph;
 use runs::Measured;
 use runs::Tile;
 
@@ -66,7 +67,7 @@ fn place_tile(
         let o = runs::part(rtl, m, j, 1);
         let y = moved(rtl, x, width, lap);
         let offset = offset_of(rtl, x, y);
-        to_glyphs[o] = tile.glyph;
+        to_glyphs[o] = tile.glyph.0;
         to_widths[o] = width;
         to_categories[o] = tile.category;
         to_ignorables[o] = tile.ignorable;
@@ -133,7 +134,7 @@ pub fn place_run(
         let times = times_of(action, copies);
         let width = runs::at(widths, p);
         let tile = Tile {
-            glyph: glyphs[p],
+            glyph: Glyph(glyphs[p]),
             width,
             category: categories[p],
             ignorable: ignorables[p],

@@ -12,10 +12,11 @@ ghost use Rattle.runs.specs.Stretched.{partOf};
 ghost use Rattle.runs.specs.Measured.{Even, NextRun, SumsAt, WordAt, MeasuredAt, StretchedLength};
 use letters::Action;
 use letters::Category;
+use letters::Glyph;
 
 // What a copy of a record keeps.
 pub struct Tile {
-    pub glyph: u32,
+    pub glyph: Glyph,
     pub width: i32,
     pub category: u8,
     pub ignorable: u8,

@@ -123,8 +123,8 @@ lengthSaid (Refused k) = 0
 abbrev pub judged : ℕ → Request → Bool → Left ℕ
 judged cap q short = leaves (first (rowsOf cap q short)) 0 (length (newLine q))
 
-abbrev pub Judging : Request → Bool → Answer → Type 0
-Judging q short r = After (numberSaid r) (lengthSaid r) ≡ judged stretchedLimit q short
+abbrev pub Judging : ℕ → Request → Bool → Answer → Type 0
+Judging cap q short r = After (numberSaid r) (lengthSaid r) ≡ judged cap q short
 
 -- the call under a cap: a refusal leaves the output as it was
 abbrev pub stretchAfter : ℕ → Request → Columns → Left Outcome

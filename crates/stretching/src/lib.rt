@@ -10,7 +10,7 @@ ghost use Rattle.runs.specs.Stretched.{work, worked};
 ghost use Rattle.runs.specs.Measured.{Even};
 ghost use Rattle.copying.specs.Pasted.{EvenLine, Roomy};
 ghost use Rattle.laying.specs.Laid.{laid};
-ghost use Rattle.stretching.specs.Stretching.{requestOf, newLine, differing, lacking, NewLength, Judging, Stretching};
+ghost use Rattle.stretching.specs.Stretching.{stretchedLimit, requestOf, newLine, differing, lacking, NewLength, Judging, Stretching};
 use letters::Action;
 use letters::Category;
 use refusals::Refusal;
@@ -100,7 +100,7 @@ fn judge(
     to_advances: usize,
     to_offsets: usize,
 ) -> Answer
-    ensures { λ r. ⌜ Judging (requestOf recorded rtl (columns (now (glyphs .entry)) (now (widths .entry)) (now (categories .entry)) (now (ignorables .entry)) (now (actions .entry)) (now (advances .entry)) (now (offsets .entry)))) (lacking (length (newLine (requestOf recorded rtl (columns (now (glyphs .entry)) (now (widths .entry)) (now (categories .entry)) (now (ignorables .entry)) (now (actions .entry)) (now (advances .entry)) (now (offsets .entry)))))) «to_glyphs» «to_widths» «to_categories» «to_ignorables» «to_actions» «to_advances» «to_offsets») r ⌝ }
+    ensures { λ r. ⌜ Judging stretchedLimit (requestOf recorded rtl (columns (now (glyphs .entry)) (now (widths .entry)) (now (categories .entry)) (now (ignorables .entry)) (now (actions .entry)) (now (advances .entry)) (now (offsets .entry)))) (lacking (length (newLine (requestOf recorded rtl (columns (now (glyphs .entry)) (now (widths .entry)) (now (categories .entry)) (now (ignorables .entry)) (now (actions .entry)) (now (advances .entry)) (now (offsets .entry)))))) «to_glyphs» «to_widths» «to_categories» «to_ignorables» «to_actions» «to_advances» «to_offsets») r ⌝ }
 {
     if differ(
         actions.len(),

@@ -76,8 +76,8 @@ shared-slice-read-t35 c = omega (arith, spot (c .before .before .before .before)
 shared-slice-read-t32 : tie.Need-shared-slice-read-t32 Inv-loop μ-loop
 shared-slice-read-t32 c = omega (arith, spot (c .before .before .before .before .before), c .before .before .before .before .before .before .before .before .before .before .before .before .before .before .before .before .before .before .pre .1 .0 .tileCategories)
 
-shared-slice-read-t38 : tie.Need-shared-slice-read-t38 Inv-loop μ-loop
-shared-slice-read-t38 c = omega (arith, spot (c .before .before .before .before .before .before), c .before .before .before .before .before .before .before .before .before .before .before .before .before .before .before .before .before .before .before .pre .1 .0 .tileIgnorables)
+shared-slice-read-t39 : tie.Need-shared-slice-read-t39 Inv-loop μ-loop
+shared-slice-read-t39 c = omega (arith, spot (c .before .before .before .before .before .before), c .before .before .before .before .before .before .before .before .before .before .before .before .before .before .before .before .before .before .before .pre .1 .0 .tileIgnorables)
 
 place-tile-requires : tie.Need-place-tile-requires Inv-loop μ-loop
 place-tile-requires c κs = (tile-fits (c .before .before .before .before .before .before .before .before .before .before .before), roomy-same (c .before .before .before .before .before .before .before .before .before .before .before .before .before .before .before .loop .inv .same) (c .before .before .before .before .before .before .before .before .before .before .before .before .before .before .before .before .before .before .before .before .before .before .before .before .before .before .pre .1 .1 .1))
@@ -152,7 +152,7 @@ place-run-spec =
     mul-t33
     shared-slice-read-t35
     shared-slice-read-t32
-    shared-slice-read-t38
+    shared-slice-read-t39
     place-tile-requires
     add-next
     add-next-2

@@ -194,7 +194,7 @@ fn any_code(draw: &mut Draw, listed: bool) -> u32 {
 
 // ---- all short ones
 
-/// Document 01's example, and those of its readings: a block that ends at a mark that is not listed, one mark alone; a class above both.
+/// Document 01's example, and others by document 01: a block that ends at a mark that is not listed, one mark alone; a class above both.
 fn examples(cases: &mut Cases) {
     write(cases, &[(0x64E, 30), (0x655, 220), (0x65F, 220), (0x654, 230)], 0, 4);
     write(cases, &[(0x64E, 30), (0x655, 220), (0x65F, 220), (0x655, 220)], 0, 4);

@@ -263,7 +263,7 @@ fn examples(cases: &mut Cases, draw: &mut Draw) {
     example(cases, draw, true, &[word, known(13, CF, FIXED)], &[0, -14]);
     example(cases, draw, true, &[word, known(0, CF, REPEATING)], &[0, 5, 5]);
     example(cases, draw, false, &[known(4, CF, REPEATING), word], &[0, 4, 7, 0]);
-    // those of its readings: exact products, and an added copy without excess
+    // others by document 01: exact products, and an added copy without excess
     let word_of = |advance| Record { advance, ..word };
     example(cases, draw, true, &[word_of(i32::MAX), known(HALF, CF, REPEATING)], &[0, -i32::MAX, -HALF]);
     example(cases, draw, true, &[word, known(-4, CF, REPEATING)], &[0, 13, 9]);

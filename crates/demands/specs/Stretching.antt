@@ -1,6 +1,6 @@
--- What stretching promises, of every request, by the call's statement (`Stretching` of crate stretching): `OneAnswer`, `RefusedStays`, `SmallestNumber`; `Past`, `PastTheAnswer` that output past the answer is untouched;
+-- What stretching promises. Of every request, by the call's statement (`Stretching` of crate stretching): `OneAnswer`, `RefusedStays`, `SmallestNumber`; `Past`, `PastTheAnswer` that output past the answer is untouched;
 -- `records` the records that an output begins with; `GivenAsItIs` which lines stay as they are; `CountAdded` how many records there are; `OthersStay` what becomes of a record that is no tile; `times`, `repeated`, `CopiesKeep`, `FromTheLine` what copies keep;
--- `RunsHaveNoAdvance`; `unplaced`, `TurnedRound` that the other direction is the same work.
+-- `RunsHaveNoAdvance`. Of the definition (`stretched` of crate runs): `unplaced`, `TurnedRound` that the other direction is the same work.
 -- Assumes nothing.
 use mathlib.Core.Path.{_≡_}
 use mathlib.Core.Bool.{Bool, true, false, cond, not}

@@ -1,7 +1,7 @@
 -- How the repeating tiles of a run, w wide together, fill the room (document 01, "Stretching"): `count` a number as a count; `whole` the copies that
 -- fit whole; `added` whether one more is added; `copies` both; `excess`, `squeezed` by how much these exceed the room, and whether they do;
 -- `overlap` by how much each copy overlaps; `start` where the offsets start; `fitOf` the three together.
--- Sums and products are exact here: those that saturate are the widths' and the room's.
+-- Sums and products are exact here: those that saturate are the widths', the room's and the steps of the offsets.
 -- Assumes nothing.
 use Prim.Native.Nat.{ℕ, _+_, _-_, _*_}
 use mathlib.Core.Bool.{Bool, cond, _&&_}

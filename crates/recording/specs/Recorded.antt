@@ -1,4 +1,4 @@
--- Recording `stch` (document 01, "Stretching"): `Request` what is asked for; `Outcome` what is there afterwards; `yes`, `some` what a yes-or-no column says; `tile`, `newAction`, `newActions` the
+-- Recording `stch` (document 01, "Stretching"): `Request`, `requestOf` what is asked for; `Outcome`, `outcome` what is there afterwards; `yes`, `some` what a yes-or-no column says; `tile`, `newAction`, `newActions` the
 -- action that a record gets; `recorded` what recording gives; `rowsOf`, `recordRows`, `recordRefusal` when it is refused, and with which number; `numberSaid`, `recordedSaid` what an answer says;
 -- `recordAfter`, `Recording` what the call answers and leaves, of every input.
 -- Assumes nothing.

@@ -1,4 +1,5 @@
--- What measuring answers, of the records from a place on in the order of the work: `sumsOf` a run's sums; `wordSum` a word's; `measuredOf` a run with the word before it.
+-- What measuring answers, of the records from a place on in the order of the work: `Even` columns of one length; `Lent` columns that a line has; `sumsOf` a run's sums; `wordSum` a word's; `measuredOf` a run with the word before it;
+-- `NextRun`, `SumsAt`, `WordAt`, `MeasuredAt`, `StretchedLength` what the calls answer: where the next run begins, each of these three, and how many records the stretched line has.
 -- Assumes nothing.
 use mathlib.Core.Path.{_≡_}
 use mathlib.Core.Bool.{Bool, false}

@@ -1,5 +1,5 @@
 -- Runs and the words before them (document 01, "Stretching"), of records in the order of the work, in which the word follows its run: `acts`, `tileAction`, `isTile` a record of a run; `wordCategories`, `wordNumbers`, `inWord` a record of a word;
--- `run`, `pastRun`, `word` the run that a list begins with, all behind it, and its word; `plain` the records before the next run; `sum` a sum of 32 bits; `widthOf` the width of tiles of an action;
+-- `run`, `pastRun`, `word` the run that a list begins with, all behind it, and its word; `isPlain`, `plain` a record of no run, and the records before the next run; `sum` a sum of 32 bits; `widthOf` the width of tiles of an action;
 -- `room`, `repeatingWidth`, `tiles` what the numbers of crate fitting are taken of; `copiesOf`, `overlapOf`, `startOf` these numbers.
 -- Assumes nothing.
 use mathlib.Core.Bool.{Bool, not, _&&_, _||_}
@@ -44,10 +44,11 @@ run l = front isTile l
 abbrev pub pastRun : List Record → List Record
 pastRun l = behind isTile l
 
--- the records before the next run
+-- a record of no run
 abbrev pub isPlain : Record → Bool
 isPlain r = not (isTile r)
 
+-- the records before the next run
 abbrev pub plain : List Record → List Record
 plain l = front isPlain l
 

@@ -1,5 +1,5 @@
--- The call that stretches a line: `Request` what is asked for; `Columns` (crate runs) what is lent, the line's and the output's; `Outcome` what is there afterwards; `newLine` what stretching gives; `over`, `laidOver` where it is laid;
--- `differing`, `unequal`, `lacking`, `shorter`, `rowsOf`, `stretchRows`, `stretchRefusal` when it is refused, and with which number; `numberSaid`, `lengthSaid` what an answer says; `judged`, `Judging` what is answered before anything is laid; `stretchAfter`, `Stretching` what the call answers and leaves, of every input.
+-- The call that stretches a line: `stretchedLimit` how many records its answer may have; `Request`, `requestOf` what is asked for; `Columns` (crate runs) what is lent, the line's and the output's; `Outcome`, `outcome` what is there afterwards; `newLine` what stretching gives; `over`, `laidOver` where it is laid;
+-- `differing`, `unequal`, `lacking`, `shorter`, `rowsOf`, `stretchRows`, `stretchRefusal` when it is refused, and with which number; `numberSaid`, `lengthSaid` what an answer says; `judged`, `Judging` what is answered before anything is laid; `stretchAfter`, `Stretching` what the call answers and leaves, of every input; `NewLength` the length of the new line, of some columns of the line.
 -- Assumes nothing.
 use mathlib.Core.Path.{_≡_}
 use mathlib.Core.Bool.{Bool, cond, not, _&&_, _||_}

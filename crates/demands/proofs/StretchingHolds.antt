@@ -13,14 +13,14 @@ use Rattle.refusals.proofs.LeftLaws.{left-smallest}
 use Rattle.runs.specs.Records.{Record, Columns, recordAt, lineOf, kept}
 use Rattle.runs.specs.Runs.{isTile, isPlain}
 use Rattle.runs.specs.Stretched.{inOrder, partOf, work, stretched, recordsAdded}
-use Rattle.runs.proofs.RecordLaws.{blank, length-line, length-work, spot-below, work-at}
+use Rattle.runs.proofs.RecordLaws.{blank, getD-listed, length-line, length-work, spot-below, work-at}
 use Rattle.runs.proofs.StretchedLaws.{length-stretched}
 use Rattle.stretching.specs.declared.Answer.{Answer}
 use Rattle.stretching.specs.Stretching.{Request, outcome, stretchedLimit, newLine, laidOver, stretchRows, stretchRefusal, numberSaid, lengthSaid, Stretching}
 use Rattle.stretching.proofs.StretchingLaws as laws
 use Rattle.stretching.proofs.StretchingLaws.{Allowed, allowed, number-given, refused-left, accepted-left}
 use Rattle.demands.specs.Stretching.{OneAnswer, RefusedStays, SmallestNumber, Past, PastTheAnswer, records, GivenAsItIs, CountAdded, OthersStay, CopiesKeep, FromTheLine, RunsHaveNoAdvance, TurnedRound}
-use Rattle.demands.proofs.WorkedLaws.{Every, every-at, every-more, Among, getD-listed, among-stretched, among-itself, plain-stretched, kept-stretched, Still, still-stretched, none-stretched, turned-stretched, records-glued}
+use Rattle.demands.proofs.WorkedLaws.{Every, every-at, every-more, Among, among-stretched, among-itself, plain-stretched, kept-stretched, Still, still-stretched, none-stretched, turned-stretched, records-glued}
 
 pub one-answer : OneAnswer
 one-answer = laws.one-answer

@@ -1,9 +1,9 @@
 -- Of the stretched line, as a list of records: `Every` that each record has a property (`every-more`, `every-in-order`, `every-at`); its records that are no tiles (`plain-stretched`); what its records keep (`kept-stretched`), and that some record of the line has it (`Among`, `among-stretched`, `among-itself`);
--- the advances of its tiles (`Still`, `still-stretched`); a line without tiles (`none-stretched`); the other direction (`turned-stretched`); the records that columns begin with (`records-glued`, `getD-listed`).
+-- the advances of its tiles (`Still`, `still-stretched`); a line without tiles (`none-stretched`); the other direction (`turned-stretched`); the records that columns begin with (`records-glued`).
 -- Assumes nothing.
 use mathlib.Core.Path.{_≡_, refl, sym, ap, ap₂, _∙_}
 use mathlib.Core.Bool.{Bool, true, false, cond, not, true≢false}
-use mathlib.Core.List.{List, [], _∷_, _++_, map, reverse, reverseAux, reverse-reverse}
+use mathlib.Core.List.{List, [], _∷_, _++_, map, map-append, reverse, reverseAux, reverse-reverse}
 use Prim.Native.Nat.{ℕ, zero, suc, _<_}
 use native.Mathlib.Omega.{arith}
 use lib.ListN.{length, getD, replicate}
@@ -19,11 +19,6 @@ use Rattle.runs.proofs.RecordLaws.{blank, order-twice, map-in-order}
 use Rattle.demands.specs.Stretching.{records, times, repeated, unplaced}
 
 -- ---- lists
-module _ {A B : Type 0} (f : A → B) where
-  map-append : (x y : List A) → map f (x ++ y) ≡ map f x ++ map f y
-  map-append [] y = refl
-  map-append (a ∷ x) y = ap (λ (l : List B). f a ∷ l) (map-append x y)
-
 module _ {A : Type 0} (p : A → Bool) where
   those-onto : (l r : List A) → those p (reverseAux l r) ≡ reverseAux (those p l) (those p r)
   those-onto [] r = refl
@@ -309,9 +304,3 @@ pub records-glued : (l : List Record) (rest : Columns) → records (length l) (g
 unfolding listed
 records-glued [] rest = refl
 records-glued (r ∷ l) rest = ap (λ (m : List Record). r ∷ m) (records-glued l rest)
-
-pub getD-listed : {A : Type 0} (f : ℕ → A) (n i : ℕ) (d : A) → i < n → getD (listed f n) i d ≡ f i
-unfolding listed
-getD-listed f zero i d h = absurd (omega arith)
-getD-listed f (suc n) zero d h = refl
-getD-listed f (suc n) (suc i) d h = getD-listed (λ (k : ℕ). f (suc k)) n i d (omega arith)

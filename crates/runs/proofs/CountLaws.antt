@@ -1,8 +1,8 @@
 -- The loop that counts the records of the stretched line: what it carries (`Counting`), and a turn over a run and the plain records behind it (`counting-starts`, `counting-turn`, `counting-ends`); that its numbers fit (`turned`).
 -- Assumes nothing.
-use mathlib.Core.Path.{_≡_, refl, sym, ap, _∙_}
+use mathlib.Core.Path.{_≡_, sym, ap, _∙_}
 use mathlib.Core.Bool.{Bool, false}
-use mathlib.Core.List.{List, []}
+use mathlib.Core.List.{List}
 use Prim.Native.Nat.{ℕ, _+_, _*_, _≤_, _<_}
 use native.Mathlib.Omega.{arith}
 use lib.ListN.{length, drop, length-drop, drop-of-length-le}

@@ -1,18 +1,18 @@
 -- A run, measured: its end is in the line, and it has no more tiles than records (`sums-fit`, `measured-fits`); what its sums and its word come to (`measured-is`); how much it adds at most (`run-adds-most`).
 -- Assumes nothing.
-use mathlib.Core.Path.{_≡_, refl, sym, ap, _∙_}
+use mathlib.Core.Path.{_≡_, sym, ap, _∙_}
 use mathlib.Core.Bool.{Bool, true, false, cond, _&&_}
 use mathlib.Core.List.{List}
 use Prim.Native.Nat.{ℕ, zero, suc, _+_, _-_, _*_, _/_, _≤_, _<_}
 use native.Mathlib.Omega.{arith}
 use native.Mathlib.Nat.{div-le-self, le-trans, mul-le-mul-left, mul-le-mul-right}
-use lib.ListN.{length, drop, length-drop}
+use lib.ListN.{length, drop}
 use lib.Seq.{drop-drop}
 use lib.IntN.{ℤ, pos, negsuc, negℤ}
 use lib.Signed.{mag, ltZ, quotZ}
 use mir.Syntax.{w32}
 use mir.Val.{SFits, toZ, ofZ}
-use Rattle.laws.proofs.ListLaws.{length-parted, front-fits, front-past, those-fewer}
+use Rattle.laws.proofs.ListLaws.{front-fits, front-past, those-fewer}
 use Rattle.letters.specs.Actions.{repeating}
 use Rattle.fitting.specs.Saturating.{satSub}
 use Rattle.fitting.specs.Fit.{count, whole, added, copies, fitOf}
@@ -62,19 +62,16 @@ measured-is l from r w s f er ew fixed-fits repeating-fits word-fits overlap-fit
     rw (back overlap-fits, back start-fits, er, fit-is)
 
 -- ---- how many copies
+negative : (a n : ℕ) → count (negℤ (pos n)) ≤ a + 1
+unfolding count
+negative a zero = omega arith
+negative a (suc n) = omega arith
+
 quot-most : (z w : ℤ) → count (quotZ z w) ≤ mag z + 1
 unfolding count
 quot-most (pos a) (pos b) = omega (arith, div-le-self a b)
-quot-most (pos a) (negsuc b) = negative (a / suc b)
-  where
-    negative : (n : ℕ) → count (negℤ (pos n)) ≤ a + 1
-    negative zero = omega arith
-    negative (suc n) = omega arith
-quot-most (negsuc a) (pos b) = negative (suc a / b)
-  where
-    negative : (n : ℕ) → count (negℤ (pos n)) ≤ a + 1
-    negative zero = omega arith
-    negative (suc n) = omega arith
+quot-most (pos a) (negsuc b) = negative a (a / suc b)
+quot-most (negsuc a) (pos b) = negative a (suc a / b)
 quot-most (negsuc a) (negsuc b) = omega (arith, div-le-self (suc a) (suc b))
 
 copies-most : (z w : ℤ) (t : ℕ) → SFits w32 z → copies z w t ≤ 2147483648

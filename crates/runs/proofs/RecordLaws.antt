@@ -1,13 +1,13 @@
 -- A line's records in the order of the work: a list in that order has its length (`length-in-order`), and twice turned it is itself (`order-twice`), as is one of at most one element (`order-none`, `order-one`); the place that comes k-th (`part-fits`, `spot-below`, `getD-in-order`, `set-in-order`); the records still to come at k
--- (`work-next`, `work-ends`); the line itself (`length-line`, `line-at`, `column-of`); a part of it (`part-in-order`).
+-- (`work-next`, `work-ends`); a list by its places (`getD-listed`, `map-listed`); the line itself (`length-line`, `line-at`, `column-of`); a part of it (`part-in-order`).
 -- Assumes nothing.
 use mathlib.Core.Path.{_≡_, refl, sym, ap, _∙_}
-use mathlib.Core.Bool.{Bool, true, false, cond}
+use mathlib.Core.Bool.{Bool, true, false}
 use mathlib.Core.List.{List, [], _∷_, _++_, map, reverse, reverseAux, reverse-cons, reverse-append, reverse-reverse, append-assoc}
 use Prim.Native.Nat.{ℕ, zero, suc, _+_, _-_, _<_, _≤_}
 use native.Mathlib.Omega.{arith}
 use native.Mathlib.Decide.{decLt}
-use lib.ListN.{length, getD, set, take, drop, drop-of-length-le, length-append, length-reverse, length-drop, length-map, List·getD-append, List·getD-map}
+use lib.ListN.{length, getD, set, take, drop, drop-of-length-le, length-reverse, length-drop, length-map, List·getD-append, List·getD-map}
 use lib.Seq.{slice, getD-append-seam, set-append-seam, set-append-left, length-slice, take-at, drop-at, ext-getD}
 use Rattle.laws.proofs.PartLaws.{three-parts, slice-mid}
 use lib.IntN.{pos}
@@ -102,7 +102,7 @@ module _ {A : Type 0} where
   length-listed f zero = refl
   length-listed f (suc n) = ap suc (length-listed (λ (k : ℕ). f (suc k)) n)
 
-  getD-listed : (f : ℕ → A) (n i : ℕ) (d : A) → i < n → getD (listed f n) i d ≡ f i
+  pub getD-listed : (f : ℕ → A) (n i : ℕ) (d : A) → i < n → getD (listed f n) i d ≡ f i
   unfolding listed
   getD-listed f zero i d h = absurd (omega arith)
   getD-listed f (suc n) zero d h = refl

@@ -1,7 +1,7 @@
 -- A run and its word, measured record by record: `Summing` the sums of a run so far, and what they become at a fixed tile, at a repeating one, and at the end (`summing-fixed`, `summing-repeating`, `summing-ends`); the sum over a word
 -- likewise (`word-more`, `word-ends`); by an action whether it is a tile's (`tile-fixed`, `tile-repeating`, `tile-none`, `tile-above`, `tile-below`).
 -- Assumes nothing.
-use mathlib.Core.Path.{_≡_, refl, sym, ap, _∙_}
+use mathlib.Core.Path.{_≡_, refl, _∙_}
 use mathlib.Core.Bool.{Bool, true, false, _||_}
 use mathlib.Core.List.{List, [], _∷_, map}
 use Prim.Native.Nat.{ℕ, _+_, _≤_, _<_}
@@ -14,7 +14,7 @@ use Rattle.laws.specs.Lists.{those, front}
 use Rattle.letters.specs.Actions.{fixed, repeating}
 use Rattle.fitting.specs.Saturating.{satAdd}
 use Rattle.runs.specs.Records.{Record}
-use Rattle.runs.specs.Runs.{acts, tileAction, isTile, inWord, run, sum, widthOf, tiles}
+use Rattle.runs.specs.Runs.{acts, tileAction, inWord, run, sum, widthOf, tiles}
 use Rattle.runs.specs.Measured.{sumsOf}
 use Rattle.runs.specs.declared.Sums.{Sums}
 

@@ -1,7 +1,7 @@
 -- A turn of a loop that goes over a line in the order of the work, of any line that has the columns which the loop reads (`next-at`): of the one that seeks the next run, of the one that sums a run, and of the one that sums a word.
 -- Assumes nothing.
-use mathlib.Core.Path.{_≡_, refl, sym, ap, _∙_}
-use mathlib.Core.Bool.{Bool, true, false, not}
+use mathlib.Core.Path.{_≡_, sym, ap, _∙_}
+use mathlib.Core.Bool.{Bool, true, false}
 use mathlib.Core.List.{List, [], _∷_}
 use Prim.Native.Nat.{ℕ, _+_, _≤_, _<_}
 use native.Mathlib.Omega.{arith}
@@ -14,7 +14,7 @@ use Rattle.letters.specs.Actions.{fixed, repeating}
 use Rattle.fitting.specs.Saturating.{satAdd}
 use Rattle.fitting.proofs.SignedLaws.{back, ret, sat-add-fits}
 use Rattle.runs.specs.Records.{Record, Columns, recordAt}
-use Rattle.runs.specs.Runs.{tileAction, isTile, isPlain, plain, inWord, wordNumbers, run, sum}
+use Rattle.runs.specs.Runs.{tileAction, plain, inWord, wordNumbers, run, sum}
 use Rattle.runs.specs.Stretched.{work, partOf}
 use Rattle.runs.specs.Measured.{Lent, sumsOf, wordSum}
 use Rattle.runs.specs.declared.Sums.{Sums}

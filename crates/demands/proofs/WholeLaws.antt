@@ -6,12 +6,12 @@ use Prim.Native.Nat.{ℕ, _<_, _≤_}
 use native.Mathlib.Omega.{arith}
 use lib.ListN.{length, getD}
 use lib.Seq.{ext-getD}
-use Rattle.lines.specs.Held.{Setting, Letters, Line, lettersOf}
+use Rattle.lines.specs.Held.{Setting, Line, lettersOf}
 use Rattle.lines.specs.Joined.{typesOf, frameOf, joinedLine}
 use Rattle.lines.proofs.LineLaws.{formed}
 use Rattle.renewing.specs.Renewed.{touched}
 use Rattle.renewing.proofs.RenewLaws.{length-renewed}
-use Rattle.replacing.specs.Replaced.{Request, changed, replacedLine}
+use Rattle.replacing.specs.Replaced.{Request, replacedLine}
 use Rattle.replacing.proofs.LocalLaws.{TouchesIn, touched-touches, touches-touched, length-changed}
 use Rattle.replacing.proofs.AllowedLaws.{Allowed, length-letters}
 use Rattle.replacing.proofs.CurrentLaws.{replaced-else, replaced-fresh}

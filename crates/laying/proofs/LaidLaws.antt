@@ -8,7 +8,6 @@ use Prim.Native.Nat.{ℕ, _+_, _-_, _≤_, _<_}
 use native.Mathlib.Omega.{arith}
 use lib.ListN.{length, take, drop, set, length-append, length-map, length-drop}
 use lib.Seq.{slice, length-take-le}
-use lib.IntN.{ℤ}
 use Rattle.laws.proofs.PartLaws.{take-map, drop-map}
 use Rattle.runs.specs.Records.{Record, Columns, columns, lineOf}
 use Rattle.runs.specs.Stretched.{inOrder, partOf, work}

@@ -1,23 +1,22 @@
 -- The call, put together: the length of the new line (`length-recorded`); what judging gives, by the tests (`judged-uneven`, `judged-long`, `judged-strange`, `judged-over`, `judged-short`, `judged-accepted`), and what that says of the request (`judged-number`, `judged-length`); the new line laid into the output (`laid-over`, `work-laid`, `line-laid`).
 -- Assumes nothing.
-use mathlib.Core.Path.{_≡_, refl, sym, ap, ap₂, _∙_}
-use mathlib.Core.Bool.{Bool, true, false, not, _&&_}
-use mathlib.Core.List.{List, [], _++_, map}
+use mathlib.Core.Path.{_≡_, refl, sym, ap, _∙_}
+use mathlib.Core.Bool.{Bool, true, false, _&&_}
+use mathlib.Core.List.{List}
 use Prim.Native.Nat.{ℕ, _≤_, _<_}
 use native.Mathlib.Omega.{arith}
 use borrow.Author.Tests.{lt-ltb, le-ltb}
-use lib.Dec.{ltb}
 use lib.ListN.{length, take, drop}
 use lib.Seq.{take-all}
 use Rattle.laws.specs.Rows.{first}
 use Rattle.refusals.specs.Columns.{lineLimit, atMost}
-use Rattle.refusals.specs.Left.{After, leaves}
+use Rattle.refusals.specs.Left.{After}
 use Rattle.refusals.proofs.LeftLaws.{left-refused, left-done, left-number, left-accepted}
 use Rattle.letters.specs.Categories.{Zs}
 use Rattle.letters.specs.Actions.{repeating}
 use Rattle.runs.specs.Records.{Record, Columns, lineOf}
 use Rattle.runs.specs.Stretched.{inOrder, work, worked, stretched}
-use Rattle.runs.proofs.RecordLaws.{length-in-order, order-twice, length-line, length-work}
+use Rattle.runs.proofs.RecordLaws.{length-in-order, order-twice, length-line}
 use Rattle.laying.specs.Laid.{laid}
 use Rattle.copying.proofs.ColumnsLaws.{columns-same}
 use Rattle.laying.proofs.LaidLaws.{laid-on-whole}

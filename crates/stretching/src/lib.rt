@@ -1,15 +1,12 @@
 // Stretching: the public call that stretches the recorded runs of a line.
 ghost use mathlib.Core.Path.{_≡_};
-ghost use mathlib.Core.Bool.{true, false};
+ghost use mathlib.Core.Bool.{true};
 ghost use Prim.Native.Nat.{_≤_};
 ghost use lib.ListN.{length};
 ghost use Rattle.refusals.specs.Columns.{lineLimit, atMost};
 ghost use Rattle.letters.specs.Actions.{repeating};
 ghost use Rattle.runs.specs.Records.{columns};
-ghost use Rattle.runs.specs.Stretched.{work, worked};
 ghost use Rattle.runs.specs.Measured.{Even};
-ghost use Rattle.copying.specs.Pasted.{EvenLine, Roomy};
-ghost use Rattle.laying.specs.Laid.{laid};
 ghost use Rattle.stretching.specs.Stretching.{stretchedLimit, requestOf, newLine, differing, lacking, NewLength, Judging, Stretching};
 use letters::Action;
 use letters::Category;

@@ -2,19 +2,18 @@
 -- with what its calls ask for (`next-fits`, `kept-fits`, `room-kept`, `past-fits`, `past-above`, `run-has-room`).
 -- Assumes nothing.
 use mathlib.Core.Path.{_≡_, refl, sym, ap, ap₂, _∙_}
-use mathlib.Core.Bool.{Bool, true, false, cond}
+use mathlib.Core.Bool.{Bool, false, cond}
 use mathlib.Core.List.{List, [], _∷_, _++_, map, head-eq-of-cons-eq, tail-eq-of-cons-eq}
 use Prim.Native.Nat.{ℕ, zero, suc, _+_, _-_, _≤_, _<_}
 use native.Mathlib.Omega.{arith}
 use lib.Dec.{eqb}
 use lib.ListN.{length, take, drop, length-append, length-drop, drop-of-length-le}
-use lib.Seq.{slice, drop-drop, take-at}
+use lib.Seq.{slice, take-at}
 use lib.IntN.{ℤ}
 use Rattle.laws.specs.Lists.{behind}
-use Rattle.laws.proofs.ListLaws.{front-behind, front-past, front-fits}
+use Rattle.laws.proofs.ListLaws.{front-behind}
 use Rattle.laws.proofs.PartLaws.{take-map, drop-map, slice-mid}
 use Rattle.letters.specs.Actions.{repeating}
-use Rattle.runs.specs.declared.Tile.{Tile}
 use Rattle.runs.specs.declared.Measured.{Measured}
 use Rattle.runs.specs.Records.{Record, Columns, recordAt, lineOf, kept}
 use Rattle.runs.specs.Runs.{isTile, isPlain, plain, run, pastRun}

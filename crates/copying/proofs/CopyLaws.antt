@@ -6,7 +6,7 @@ use lib.ListN.{length, set}
 use lib.IntN.{pos}
 use Rattle.runs.specs.Records.{Columns, columns, recordAt}
 use Rattle.copying.specs.Pasted.{pastedAll, EvenLine, Roomy}
-use Rattle.copying.proofs.PasteLaws.{Copying, copying-starts, copying-next, copying-ends}
+use Rattle.laws.proofs.PasteLaws.{Copying, copying-starts, copying-next, copying-ends}
 use Rattle.copying.proofs.ColumnsLaws.{columns-same}
 
 -- of s records from i on, to o on, j are copied

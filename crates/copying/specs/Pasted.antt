@@ -1,15 +1,11 @@
--- Columns written over: `pasted` a part of one; `pastedAll` records copied, in each column; `EvenLine` that a line's columns are of one length, `Roomy` that an output's have room.
+-- Columns written over: `pastedAll` records copied, in each column; `EvenLine` that a line's columns are of one length, `Roomy` that an output's have room.
 -- Assumes nothing.
 use mathlib.Core.Path.{_≡_}
-use mathlib.Core.List.{List, _++_}
 use Prim.Native.Nat.{ℕ, _+_, _≤_}
-use lib.ListN.{length, take, drop}
+use lib.ListN.{length}
 use lib.Seq.{slice}
+use Rattle.laws.specs.Lists.{pasted}
 use Rattle.runs.specs.Records.{Columns, columns}
-
--- a column with a part of it written over, from a place on
-unfoldable pub pasted : {A : Type 0} → List A → ℕ → List A → List A
-pasted part i column = take i column ++ (part ++ drop (i + length part) column)
 
 -- s records of a line from i on, written over those of an output from o on, in each column
 unfoldable pub pastedAll : ℕ → ℕ → Columns → ℕ → Columns → Columns

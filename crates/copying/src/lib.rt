@@ -4,7 +4,8 @@ ghost use Prim.Native.Nat.{_+_, _≤_};
 ghost use lib.ListN.{length};
 ghost use lib.Seq.{slice};
 ghost use Rattle.runs.specs.Records.{columns};
-ghost use Rattle.copying.specs.Pasted.{pasted, pastedAll, EvenLine, Roomy};
+ghost use Rattle.laws.specs.Lists.{pasted};
+ghost use Rattle.copying.specs.Pasted.{pastedAll, EvenLine, Roomy};
 
 // Copies `s` bytes of a column from `i` on to another from `o` on. The next two do the same for numbers of 32 bits: there is no function over a type.
 fn copy_bytes(from: &[u8], i: usize, s: usize, to: &mut [u8], o: usize)

@@ -8,14 +8,15 @@ use Prim.Native.Nat.{ℕ, _+_, _-_, _≤_, _<_}
 use native.Mathlib.Omega.{arith}
 use lib.ListN.{length, take, drop, set, length-append, length-map, length-drop}
 use lib.Seq.{slice, length-take-le}
+use Rattle.laws.specs.Lists.{pasted}
 use Rattle.laws.proofs.PartLaws.{take-map, drop-map}
+use Rattle.laws.proofs.PasteLaws.{length-pasted, paste-none, paste-one, paste-behind, paste-before}
 use Rattle.runs.specs.Records.{Record, Columns, columns, lineOf}
 use Rattle.runs.specs.Stretched.{inOrder, partOf, work}
 use Rattle.runs.proofs.RecordLaws.{length-in-order, order-none, order-one, part-in-order, map-in-order, part-fits, length-line, column-of}
-use Rattle.copying.specs.Pasted.{pasted, pastedAll, EvenLine, Roomy}
+use Rattle.copying.specs.Pasted.{pastedAll, EvenLine, Roomy}
 use Rattle.laying.specs.Laid.{laidOn, laid}
 use Rattle.copying.proofs.ColumnsLaws.{columns-same, SameLengths}
-use Rattle.copying.proofs.PasteLaws.{length-pasted, paste-none, paste-one, paste-behind, paste-before}
 
 module _ {A : Type 0} (f : Record → A) (rtl : Bool) (m : ℕ) where
   -- as many elements as records

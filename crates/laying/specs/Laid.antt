@@ -6,7 +6,7 @@ use Prim.Native.Nat.{ℕ}
 use lib.ListN.{length}
 use Rattle.runs.specs.Records.{Record, Columns, columns}
 use Rattle.runs.specs.Stretched.{inOrder, partOf}
-use Rattle.copying.specs.Pasted.{pasted}
+use Rattle.laws.specs.Lists.{pasted}
 
 -- a column of the first m records of a line, with records laid there that come from the k-th on in the order of the work
 unfoldable pub laidOn : {A : Type 0} → (Record → A) → Bool → ℕ → ℕ → List Record → List A → List A

@@ -3,7 +3,7 @@
 use mathlib.Core.Path.{refl}
 use Prim.Native.Nat.{_-_}
 use native.Mathlib.Omega.{arith}
-use Rattle.copying.proofs.PasteLaws.{Copying, copying-starts, copying-next, copying-ends}
+use Rattle.laws.proofs.PasteLaws.{Copying, copying-starts, copying-next, copying-ends}
 use Rattle.copying.proofs.copy_bytes.Statement.{statement}
 use Rattle.copying.proofs.copy_bytes.Tie as tie
 

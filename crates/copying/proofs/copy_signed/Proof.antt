@@ -6,7 +6,7 @@ use mir.Syntax.{w32}
 use mir.Val.{SFits}
 use Rattle.fitting.proofs.SignedLaws.{back}
 use native.Mathlib.Omega.{arith}
-use Rattle.copying.proofs.PasteLaws.{Copying, copying-starts, copying-next, copying-ends}
+use Rattle.laws.proofs.PasteLaws.{Copying, copying-starts, copying-next, copying-ends}
 use Rattle.copying.proofs.copy_signed.Statement.{statement}
 use Rattle.copying.proofs.copy_signed.Tie as tie
 

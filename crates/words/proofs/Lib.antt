@@ -1,0 +1,4 @@
+-- The laws of `words`.
+-- Assumes nothing.
+pub mod WordLaws
+pub mod WroteLaws

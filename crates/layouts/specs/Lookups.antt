@@ -1,0 +1,56 @@
+-- A lookup and its words: `Lookup`, `lookupOf` its flags, its kind and its list, as two columns; `width` how many glyphs a rule replaces; `known` which numbers of components there are; `rules` the rules of a ligature lookup; `laidOut`, `wordsOf` the lookup's words; `firstsIn`, `firsts` the first glyphs of its list; `fits` that numbers are of 16 bits.
+-- Assumes nothing.
+use mathlib.Core.Bool.{Bool, true, false, _&&_, _||_}
+use mathlib.Core.List.{List, [], _∷_, map}
+use Prim.Native.Nat.{ℕ, _*_}
+use lib.Dec.{eqb, ltb}
+use lib.ListN.{length, take, drop}
+use Rattle.layouts.specs.declared.Kind.{Kind}
+use Rattle.layouts.specs.declared.Kind.the-variants.{Single, Ligature}
+use Rattle.layouts.specs.Tables.{Rule, first, single, ligature}
+
+-- the glyphs that are replaced, and what stands for them: of a ligature lookup its components, those of one rule behind those of the other, and its ligatures
+pub record Lookup : Type 0 where
+  pub flags : ℕ
+  pub kind : Kind
+  pub glyphs : List ℕ
+  pub substitutes : List ℕ
+
+abbrev pub lookupOf : ℕ → Kind → List ℕ → List ℕ → Lookup
+lookupOf flags kind glyphs substitutes = record { flags = flags; kind = kind; glyphs = glyphs; substitutes = substitutes }
+
+-- how many glyphs a rule replaces
+abbrev pub width : Kind → ℕ
+width Single = 1
+width (Ligature n) = n
+
+-- "component number other than 2 or 3"
+abbrev pub known : Kind → Bool
+known Single = true
+known (Ligature n) = eqb n 2 || eqb n 3
+
+-- the rules of n components each that two columns hold
+unfoldable pub rules : ℕ → List ℕ → List ℕ → List Rule
+rules n components [] = []
+rules n components (l ∷ ligatures) = record { components = take n components; ligature = l } ∷ rules n (drop n components) ligatures
+
+-- the words of a lookup of each kind
+abbrev pub laidOut : Kind → ℕ → List ℕ → List ℕ → List ℕ
+laidOut Single flags glyphs substitutes = single flags glyphs substitutes
+laidOut (Ligature n) flags components ligatures = ligature flags n (rules n components ligatures)
+
+abbrev pub wordsOf : Lookup → List ℕ
+wordsOf l = laidOut (l .kind) (l .flags) (l .glyphs) (l .substitutes)
+
+-- the first glyph of each rule
+abbrev pub firstsIn : Kind → List ℕ → List ℕ → List ℕ
+firstsIn Single glyphs substitutes = glyphs
+firstsIn (Ligature n) components ligatures = map first (rules n components ligatures)
+
+abbrev pub firsts : Lookup → List ℕ
+firsts l = firstsIn (l .kind) (l .glyphs) (l .substitutes)
+
+-- every number is of 16 bits
+unfoldable pub fits : List ℕ → Bool
+fits [] = true
+fits (w ∷ ws) = ltb w 65536 && fits ws

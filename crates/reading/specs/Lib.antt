@@ -1,0 +1,3 @@
+-- What the contracts of `reading` cite.
+-- Assumes nothing.
+pub mod Read

@@ -1,0 +1,4 @@
+-- What the contracts of the reader cite.
+-- Assumes nothing.
+pub mod Scans
+pub mod Grammar

@@ -1,0 +1,1 @@
+// Scanning: no functions; the definition of which bytes are a lookup, word by word, and that it is exact.

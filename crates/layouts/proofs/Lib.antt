@@ -1,2 +1,4 @@
 -- The laws of `layouts`.
 -- Assumes nothing.
+pub mod FitLaws
+pub mod SetLaws

@@ -1,9 +1,9 @@
--- The tables of a GSUB lookup as OpenType lays them out, in 16-bit numbers ("words"): `lookup`, `coverage` what both kinds have; `single` SingleSubstFormat2; `Rule`, `first`, `leader`, `sets` rules and how they fall into sets; `offsets`, `joined` blocks that lie one behind the other;
+-- The tables of a GSUB lookup as OpenType lays them out, in 16-bit numbers ("words"): `lookup`, `coverage` what both kinds have; `single` SingleSubstFormat2; `Rule`, `first`, `leader`, `sets` rules and how they fall into sets; `offsets`, `evenly`, `joined` blocks that lie one behind the other;
 -- `ruleWords`, `setWords`, `ligature` Ligature, LigatureSet, LigatureSubstFormat1.
 -- Assumes nothing.
 use mathlib.Core.Bool.{cond}
 use mathlib.Core.List.{List, [], _∷_, _++_, map}
-use Prim.Native.Nat.{ℕ, _+_, _*_}
+use Prim.Native.Nat.{ℕ, zero, suc, _+_, _*_}
 use lib.Dec.{eqb}
 use lib.ListN.{length, getD, drop}
 
@@ -51,6 +51,11 @@ offsets o (block ∷ blocks) = o ∷ offsets (o + 2 * length block) blocks
 unfoldable pub joined : List (List ℕ) → List ℕ
 joined [] = []
 joined (block ∷ blocks) = block ++ joined blocks
+
+-- c numbers from o on, each `by` more than the one before: where blocks of one size begin
+abbrev pub evenly : ℕ → ℕ → ℕ → List ℕ
+evenly zero o by = []
+evenly (suc c) o by = o ∷ evenly c (o + by) by
 
 -- ---- the tables of a ligature lookup, whose rules have n components
 -- Ligature: the ligature, the number of components, the components behind the first

@@ -8,6 +8,7 @@ use borrow.Author.Tests.{eqb-true, not-false}
 use lib.ListN.{length}
 use Rattle.laws.specs.Rows.{Given}
 use Rattle.laws.proofs.RowLaws.{first-none}
+use Rattle.laws.proofs.TestLaws.{both}
 use Rattle.refusals.specs.Columns.{atMost}
 use Rattle.letters.specs.Types.{X}
 use Rattle.letters.specs.Categories.{Zs}
@@ -18,10 +19,6 @@ use Rattle.selectors.proofs.SelectorLaws.{length-settled}
 use Rattle.joining.specs.Joinable.{Joinable}
 use Rattle.lines.specs.Held.{Letters, Setting, Frame, Line}
 use Rattle.lines.specs.Joined.{typesOf, freshActions, sized, evenLetters, evenLine, knownLetters, uneven, tooLong, strange, refusal}
-
--- two tests that both passed
-both : (a b : Bool) → (a && b) ≡ true → (a ≡ true) × (b ≡ true)
-both a b = and-eq-true-iff a b .0
 
 sized-length : (n : ℕ) (column : List ℕ) → sized n column ≡ true → length column ≡ n
 sized-length n column e = sym (eqb-true n (length column) e)

@@ -8,7 +8,7 @@ use lib.Dec.{eqb, leb, ltb}
 use lib.ListN.{length}
 use Rattle.words.specs.Words.{wordsAt}
 use Rattle.layouts.specs.declared.Kind.the-variants.{Single, Ligature}
-use Rattle.layouts.specs.Tables.{Rule}
+use Rattle.layouts.specs.Tables.{Rule, evenly}
 use Rattle.layouts.specs.Lookups.{Lookup, lookupOf}
 use Rattle.scanning.specs.Scans.{Scan, Rest, fine, wrong, short, next, any, exactly, several, rise, end, further}
 
@@ -63,11 +63,6 @@ later n (suc left) o k = next (λ w. isSize n (w - o) && ltb (w + left * setSize
 unfoldable pub starts : ℕ → ℕ → (List ℕ → Rest) → Rest
 starts n zero k = k []
 starts n (suc s) k = exactly ((10 + 4 * suc s) ∷ []) (later n s (10 + 4 * suc s) (λ os. k ((10 + 4 * suc s) ∷ os)))
-
--- c numbers from o on, each `by` more than the one before
-abbrev pub evenly : ℕ → ℕ → ℕ → List ℕ
-evenly zero o by = []
-evenly (suc c) o by = o ∷ evenly c (o + by) by
 
 -- c rules that begin with the glyph `lead`
 unfoldable pub ruled : ℕ → ℕ → ℕ → (List Rule → Rest) → Rest

@@ -65,8 +65,10 @@ ltb-same a m b k f g = go (ltb b k) refl
   where
     lt-false : b < k → k ≤ b → ⊥
     lt-false p q = omega arith
+
     not-lt : (a < m → ⊥) → m ≤ a
     not-lt n = omega arith
+
     go : (t : Bool) → ltb b k ≡ t → ltb a m ≡ t
     go true e = lt-ltb a m (g (ltb-true b k e))
     go false e = le-ltb a m (not-lt (λ h. lt-false (f h) (ltb-false b k e)))

@@ -69,12 +69,15 @@ module _ (n : ℕ) (low : 0 < n) where
     where
       last : (c : ℕ) → 2 + 2 * suc c + c * (2 + 2 * n) < 65536 → suc c * (4 + 2 * n) < 65536 + 2 * n
       last c h = omega arith
+
       last-of : (c : ℕ) → suc c * (4 + 2 * n) < 65536 + 2 * n → 2 + 2 * suc c + c * (2 + 2 * n) < 65536
       last-of c h = omega arith
+
       true-behind : (s t : Bool) → (s && (t && true)) ≡ (s && t)
       true-behind true true = refl
       true-behind true false = refl
       true-behind false t = refl
+
       go : (c : ℕ) → 0 < c → (ltb c 65536 && (fits (evenly c (2 + 2 * c) (2 + 2 * n)) && true)) ≡ ltb (c * (4 + 2 * n)) (65536 + 2 * n)
       go zero h = absurd (omega arith)
       go (suc c) h =

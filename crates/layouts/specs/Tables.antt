@@ -71,9 +71,9 @@ unfoldable pub ligatureOf : ℕ → ℕ → List (List Rule) → List ℕ
 ligatureOf flags n groups =
     lookup 4 flags
     (1
-      ∷ (6 + 2 * length groups)
-      ∷ length groups
-      ∷ (offsets (10 + 4 * length groups) (map (setWords n) groups) ++ (coverage (map leader groups) ++ joined (map (setWords n) groups))))
+    ∷ (6 + 2 * length groups)
+    ∷ length groups
+    ∷ (offsets (10 + 4 * length groups) (map (setWords n) groups) ++ (coverage (map leader groups) ++ joined (map (setWords n) groups))))
 
 unfoldable pub ligature : ℕ → ℕ → List Rule → List ℕ
 ligature flags n rules = ligatureOf flags n (sets rules)

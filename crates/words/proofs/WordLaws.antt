@@ -57,6 +57,7 @@ word-on x y b i = rw (two i, two-one i)
   where
     two : (i : ℕ) → i + 2 ≡ suc (suc i)
     two i = omega arith
+
     two-one : (i : ℕ) → suc (suc i) + 1 ≡ suc (suc (i + 1))
     two-one i = omega arith
 

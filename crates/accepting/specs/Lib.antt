@@ -1,0 +1,3 @@
+-- What the contracts of `accepting` cite.
+-- Assumes nothing.
+pub mod Scanned

@@ -16,7 +16,7 @@ pub enum Scanned {
 }
 
 // The very words `words`.
-fn exactly(words: &[u16], bytes: &[u8], at: usize) -> Scanned
+pub fn exactly(words: &[u16], bytes: &[u8], at: usize) -> Scanned
     requires { ⌜ at ≤ length (now bytes) ⌝ }
     ensures { λ r. ⌜ Took (these (now (words .entry))) tt (at + 2 * length (now (words .entry))) (now (bytes .entry)) at r ⌝ }
 {
@@ -36,7 +36,7 @@ fn exactly(words: &[u16], bytes: &[u8], at: usize) -> Scanned
 }
 
 // `n` words of any value.
-fn several(n: usize, bytes: &[u8], at: usize) -> Scanned
+pub fn several(n: usize, bytes: &[u8], at: usize) -> Scanned
     requires { ⌜ at ≤ length (now bytes) ⌝ }
     ensures { λ r. ⌜ Took (several n) (wordsAt (now (bytes .entry)) at n) (at + 2 * n) (now (bytes .entry)) at r ⌝ }
 {
@@ -47,7 +47,7 @@ fn several(n: usize, bytes: &[u8], at: usize) -> Scanned
 }
 
 // `n` glyphs, each at least `apart` above the one before it, with room for those behind it.
-fn rise(apart: usize, n: usize, bytes: &[u8], at: usize) -> Scanned
+pub fn rise(apart: usize, n: usize, bytes: &[u8], at: usize) -> Scanned
     requires { ⌜ (at ≤ length (now bytes)) × (apart ≤ 1) × (n < 65536) ⌝ }
     ensures { λ r. ⌜ Took (rise apart n 0) (wordsAt (now (bytes .entry)) at n) (at + 2 * n) (now (bytes .entry)) at r ⌝ }
 {
@@ -70,7 +70,7 @@ fn rise(apart: usize, n: usize, bytes: &[u8], at: usize) -> Scanned
 }
 
 // A lookup's type, flags, and one subtable, which begins at byte 8.
-fn headed(kind: u16, bytes: &[u8]) -> Scanned
+pub fn headed(kind: u16, bytes: &[u8]) -> Scanned
     ensures { λ r. ⌜ Took (headed kind) (wordAt (now (bytes .entry)) 2) 8 (now (bytes .entry)) 0 r ⌝ }
 {
     let kinds = [kind];
@@ -87,7 +87,7 @@ fn headed(kind: u16, bytes: &[u8]) -> Scanned
 }
 
 // Where the coverage begins, behind at most `most` numbers, and how many these are.
-fn counted(most: usize, bytes: &[u8], at: usize) -> Scanned
+pub fn counted(most: usize, bytes: &[u8], at: usize) -> Scanned
     requires { ⌜ (at ≤ length (now bytes)) × (most < 65536) ⌝ }
     ensures { λ r. ⌜ Took (counted most) ((wordAt (now (bytes .entry)) at - 6) / 2) (at + 4) (now (bytes .entry)) at r ⌝ }
 {
@@ -107,7 +107,7 @@ fn counted(most: usize, bytes: &[u8], at: usize) -> Scanned
 }
 
 // A coverage of `n` glyphs.
-fn covered(apart: usize, n: usize, bytes: &[u8], at: usize) -> Scanned
+pub fn covered(apart: usize, n: usize, bytes: &[u8], at: usize) -> Scanned
     requires { ⌜ (at ≤ length (now bytes)) × (apart ≤ 1) × (n < 65536) ⌝ }
     ensures { λ r. ⌜ Took (covered apart n) (wordsAt (now (bytes .entry)) (at + 4) n) (at + 4 + 2 * n) (now (bytes .entry)) at r ⌝ }
 {

@@ -1,0 +1,4 @@
+-- The laws of `grouping`.
+-- Assumes nothing.
+pub mod StartLaws
+pub mod RuleLaws

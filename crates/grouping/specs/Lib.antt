@@ -1,0 +1,3 @@
+-- What the contracts of `grouping` cite.
+-- Assumes nothing.
+pub mod Grouped

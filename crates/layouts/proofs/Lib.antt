@@ -2,3 +2,6 @@
 -- Assumes nothing.
 pub mod FitLaws
 pub mod SetLaws
+pub mod SizeLaws
+pub mod LimitLaws
+pub mod WrittenLaws

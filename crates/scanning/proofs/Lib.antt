@@ -1,2 +1,3 @@
 -- The laws of `scanning`.
 -- Assumes nothing.
+pub mod TakeLaws

@@ -1,3 +1,5 @@
 -- The laws of `scanning`.
 -- Assumes nothing.
 pub mod TakeLaws
+pub mod HeadLaws
+pub mod SingleLaws

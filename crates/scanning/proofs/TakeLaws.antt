@@ -91,7 +91,7 @@ module _ {A : Type 0} {P : A → Type 0} {f : A → List ℕ} {s : (A → Rest) 
             record { value = h (m .value); good = n .0; rest = m .rest; split = m .split ∙ ap (λ (v : List ℕ). v ++ m .rest) (n .1); more = m .more }
 
 -- ---- one word
-next-takes : (test : ℕ → Bool) → Takes (λ w. test w ≡ true) (λ w. w ∷ []) (next test)
+pub next-takes : (test : ℕ → Bool) → Takes (λ w. test w ≡ true) (λ w. w ∷ []) (next test)
 unfolding next
 next-takes test = record { on = λ w h k ws. rw h; back = back }
   where

@@ -3,3 +3,4 @@
 pub mod TakeLaws
 pub mod HeadLaws
 pub mod SingleLaws
+pub mod GroupLaws

@@ -4,3 +4,5 @@ pub mod TakeLaws
 pub mod HeadLaws
 pub mod SingleLaws
 pub mod GroupLaws
+pub mod SizeLaws
+pub mod RuleLaws

@@ -1,0 +1,50 @@
+-- Limits that the 16 bits of an offset set, over the number n of components: the numbers of document 01 (`most-rules-2`, `most-rules-3`, `most-sets-2`, `most-sets-3`); c rules are at most `mostRules n` exactly when the last one's offset fits (`in-most-rules`, `most-rules-fit`),
+-- and s sets of one rule each at most `mostSets n` exactly when the last one's offset does (`in-most-sets`, `most-sets-fit`); a number of bytes is a set's exactly when it is that of a number of rules within the limit (`size-on`, `size-back`).
+-- Assumes nothing.
+use mathlib.Core.Path.{_≡_, refl, sym, ap, _∙_}
+use mathlib.Core.Bool.{true, _&&_}
+use Prim.Native.Nat.{ℕ, suc, _+_, _-_, _*_, _/_, _<_, _≤_}
+use native.Mathlib.Nat.{le-div-iff-mul-le, mul-div-cancel}
+use native.Mathlib.Omega.{arith}
+use borrow.Author.Tests.{eq-eqb, eqb-true, le-leb, leb-true}
+use lib.Dec.{eqb, leb}
+use Rattle.laws.proofs.TestLaws.{both}
+use Rattle.scanning.specs.Grammar.{setSize, mostRules, mostSets, isSize}
+
+pub numbers : (mostRules 2 ≡ 8192) × (mostRules 3 ≡ 6554) × (mostSets 2 ≡ 4681) × (mostSets 3 ≡ 4096)
+numbers = (refl, refl, refl, refl)
+
+module _ (n : ℕ) where
+  -- rules of a set: the last one's offset is 2 + 2 * c + (c - 1) * (2 + 2 * n)
+  pub in-most-rules : (c : ℕ) → c * (4 + 2 * n) < 65536 + 2 * n → c ≤ mostRules n
+  in-most-rules c h = le-div-iff-mul-le {k = 4 + 2 * n} (omega arith) .1 (omega arith)
+
+  pub most-rules-fit : (c : ℕ) → c ≤ mostRules n → c * (4 + 2 * n) < 65536 + 2 * n
+  most-rules-fit c h = let m = le-div-iff-mul-le {k = 4 + 2 * n} (omega arith) .0 h in omega arith
+
+  -- sets of a rule each: the last one's offset is 10 + 4 * s + (s - 1) * (6 + 2 * n)
+  pub in-most-sets : (s : ℕ) → 10 + 4 * suc s + s * setSize n 1 < 65536 → suc s ≤ mostSets n
+  in-most-sets s h = le-div-iff-mul-le {k = 10 + 2 * n} (omega arith) .1 (omega arith)
+
+  pub most-sets-fit : (s : ℕ) → suc s ≤ mostSets n → 10 + 4 * suc s + s * setSize n 1 < 65536
+  most-sets-fit s h = let m = le-div-iff-mul-le {k = 10 + 2 * n} (omega arith) .0 h in omega arith
+
+  -- how many rules a set of x bytes has
+  abbrev rulesIn : ℕ → ℕ
+  rulesIn x = (x - 2) / (4 + 2 * n)
+
+  rules-in : (c : ℕ) → rulesIn (setSize n c) ≡ c
+  rules-in c = ap (λ (x : ℕ). x / (4 + 2 * n)) (less (c * (4 + 2 * n))) ∙ mul-div-cancel c (omega arith)
+    where
+      less : (x : ℕ) → 2 + x - 2 ≡ x
+      less x = omega arith
+
+  pub size-on : (c : ℕ) → 1 ≤ c → c ≤ mostRules n → isSize n (setSize n c) ≡ true
+  size-on c low few = rw (rules-in c, eq-eqb (setSize n c) (setSize n c) refl, le-leb 1 c low) (le-leb c (mostRules n) few)
+
+  pub size-back : (c x : ℕ) → isSize n x ≡ true → setSize n c ≡ x → (1 ≤ c) × (c ≤ mostRules n)
+  size-back c x e s =
+      let b = both (eqb (setSize n (rulesIn x)) x) (leb 1 (rulesIn x) && leb (rulesIn x) (mostRules n)) e in
+      let d = both (leb 1 (rulesIn x)) (leb (rulesIn x) (mostRules n)) (b .1) in
+      let r : rulesIn x ≡ c = ap rulesIn (sym s) ∙ rules-in c in
+      (rw r at (leb-true 1 (rulesIn x) (d .0)), rw r at (leb-true (rulesIn x) (mostRules n) (d .1)))

@@ -6,3 +6,4 @@ pub mod SingleLaws
 pub mod GroupLaws
 pub mod SizeLaws
 pub mod RuleLaws
+pub mod PlaceLaws

@@ -7,3 +7,4 @@ pub mod GroupLaws
 pub mod SizeLaws
 pub mod RuleLaws
 pub mod PlaceLaws
+pub mod LigatureLaws

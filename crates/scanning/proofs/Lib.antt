@@ -8,3 +8,4 @@ pub mod SizeLaws
 pub mod RuleLaws
 pub mod PlaceLaws
 pub mod LigatureLaws
+pub mod ExactLaws

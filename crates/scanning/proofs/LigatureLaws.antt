@@ -22,7 +22,7 @@ use Rattle.scanning.proofs.TakeLaws.{Takes, two-takes, behind-takes, pa
 use Rattle.scanning.proofs.HeadLaws.{headed-takes, counted-takes, covered-takes}
 use Rattle.scanning.proofs.GroupLaws.{Alike, Led, led-sets, flatten-sets, sets-flatten, leaders-rise, firsts-rise, wide-flatten, flat-rules, ligatures-rules, rules-flat, length-flat}
 use Rattle.scanning.proofs.SizeLaws.{in-most-rules, in-most-sets, size-on}
-use Rattle.scanning.proofs.PlaceLaws.{spaces, spaced, Spaced, spaced-apart, starts-takes, grouping, settled-grouping, Sound, Placed, grouping-takes}
+use Rattle.scanning.proofs.PlaceLaws.{length-offsets, spaces, spaced, Spaced, spaced-apart, starts-takes, grouping, settled-grouping, Sound, Placed, grouping-takes}
 
 -- flags, how many sets, where they begin, their first glyphs, the sets
 abbrev Parts : Type 0
@@ -71,10 +71,8 @@ module _ (n : ℕ) where
             (λ s c. two-takes (starts-takes n s) (λ os b. two-takes (covered-takes 1 s) (λ leads d. grouping-takes n low leads os (d .0 ∙ sym (b .0)) (spaced-apart n s os (b .1)))))))
 
     -- ---- forward
-    length-offsets : (o : ℕ) (groups : List (List Rule)) → length (offsets o (map (setWords n) groups)) ≡ length groups
-    unfolding offsets
-    length-offsets o [] = refl
-    length-offsets o (g ∷ gs) = ap suc (length-offsets (o + 2 * length (setWords n g)) gs)
+    length-begins : (o : ℕ) (groups : List (List Rule)) → length (offsets o (map (setWords n) groups)) ≡ length groups
+    length-begins o groups = length-offsets o (map (setWords n) groups) ∙ length-map groups (setWords n)
 
     -- a set takes at least the bytes of one rule, so the last offset leaves room for all before it
     room : (o : ℕ) (g : List Rule) (gs : List (List Rule)) → Sound n (g ∷ gs) → fits (offsets o (map (setWords n) (g ∷ gs))) ≡ true → o + length gs * setSize n 1 < 65536
@@ -92,7 +90,7 @@ module _ (n : ℕ) where
         let r = room (o + 2 * length (setWords n g)) h gs (s .4) (a .1) in
         let z = set-size n low g (s .2) in
         let fit : isSize n (o + 2 * length (setWords n g) - o) ≡ true = ap (isSize n) (gap o (2 * length (setWords n g)) ∙ z) ∙ size-on n (length g) (s .0) (s .1) in
-        rw (length-offsets (o + 2 * length (setWords n g) + 2 * length (setWords n h)) gs, fit, lt-ltb (o + 2 * length (setWords n g) + length gs * setSize n 1) 65536 r)
+        rw (length-begins (o + 2 * length (setWords n g) + 2 * length (setWords n h)) gs, fit, lt-ltb (o + 2 * length (setWords n g) + length gs * setSize n 1) 65536 r)
         (spaced-on (o + 2 * length (setWords n g)) h gs (s .4) (a .1))
       where
         gap : (o x : ℕ) → o + x - o ≡ x
@@ -143,7 +141,7 @@ module _ (n : ℕ) where
         ap (λ (r : Rest). r (ligatureOf flags n groups)) scan-groups
         ∙ rw (length-map groups leader)
         (ends ligature-takes (λ p. saidBy (p .0) (p .1 .1 .1 .1)) (flags, (s, (os, (leads, groups))))
-          (refl, (begin .0, ((length-offsets (10 + 4 * s) groups, begin .1),
+          (refl, (begin .0, ((length-begins (10 + 4 * s) groups, begin .1),
             ((length-map groups leader, up, fits-parts (1 ∷ length leads ∷ []) leads (b .0) .1),
             record { sound = fine-sets; heads = refl; begins = offsets-begin (10 + 4 * s) (map (setWords n) groups) })))))
 

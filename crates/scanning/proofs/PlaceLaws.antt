@@ -100,6 +100,12 @@ module _ (n : ℕ) where
     pub heads : leads ≡ map leader groups
     pub begins : os ≡ offsets (getD os 0 0) (map (setWords n) groups)
 
+-- as many offsets as blocks
+pub length-offsets : (o : ℕ) (blocks : List (List ℕ)) → length (offsets o blocks) ≡ length blocks
+unfolding offsets
+length-offsets o [] = refl
+length-offsets o (block ∷ blocks) = ap suc (length-offsets (o + 2 * length block) blocks)
+
 -- the first of some offsets
 offsets-first : (o p : ℕ) (os : List ℕ) (blocks : List (List ℕ)) → p ∷ os ≡ offsets o blocks → p ≡ o
 unfolding offsets

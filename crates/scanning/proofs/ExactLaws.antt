@@ -1,0 +1,207 @@
+-- Acceptance word by word is exact: what is written is accepted and reads as it was (`accepted-written`), and what is read was written (`read-is-written`); two lookups with the same words read alike (`written-once`). The same of bytes (`bytes-accepted`, `bytes-written`), and in one statement (`exact`).
+-- Assumes nothing.
+use mathlib.Core.Path.{_≡_, refl, sym, ap, _∙_}
+use mathlib.Core.Bool.{Bool, true, false, cond, _||_, false≢true}
+use mathlib.Core.Logic.{_⊎_, inl, inr}
+use mathlib.Core.List.{List, [], _∷_, _++_, map, append-assoc}
+use Prim.Native.Nat.{ℕ, zero, suc, _+_, _-_, _*_, _/_, _%_, _<_, _≤_}
+use native.Mathlib.Nat.{zero-mul}
+use native.Mathlib.Omega.{arith}
+use borrow.Author.Tests.{eqb-true, eqb-false, eq-eqb}
+use lib.Dec.{eqb}
+use lib.ListN.{length, getD, take, drop, length-map, length-append}
+use lib.Seq.{drop-at, getD-append-add}
+use Rattle.refusals.specs.Columns.{rising}
+use Rattle.words.specs.Words.{bytes, wordsAt}
+use Rattle.words.proofs.WordLaws.{length-bytes, read-back, bytes-read, words-fit}
+use Rattle.layouts.specs.declared.Kind.{Kind}
+use Rattle.layouts.specs.declared.Kind.the-variants.{Single, Ligature}
+use Rattle.layouts.specs.Tables.{Rule, first, leader, sets, offsets, joined, ruleWords, setWords, single, ligatureOf, ligature}
+use Rattle.layouts.specs.Lookups.{Lookup, lookupOf, width, known, rules, laidOut, wordsOf, firstsIn, firsts, fits}
+use Rattle.layouts.proofs.FitLaws.{fits-parts, fits-head, fits-lent}
+use Rattle.layouts.proofs.SetLaws.{run, sets-run}
+use Rattle.scanning.specs.Scans.{Scan, fine, wrong, short, further}
+use Rattle.scanning.specs.Grammar.{mostSingle, singleScan, ligatureScan, scan, reading}
+use Rattle.scanning.specs.Exact.{kindRead, asRead, Readable, IsWritten, WrittenAs, Accepted, Written, Exact}
+use Rattle.scanning.proofs.TakeLaws.{wrong-fine, short-fine, same-fine}
+use Rattle.scanning.proofs.PlaceLaws.{length-offsets}
+use Rattle.scanning.proofs.SingleLaws.{SingleRead, single-on, single-back}
+use Rattle.scanning.proofs.LigatureLaws.{LigatureRead, ligature-on, ligature-back}
+
+-- ---- of two scans
+further-second : (a b : Scan) (l : Lookup) → ((m : Lookup) → a ≡ fine m → ⊥) → b ≡ fine l → further a b ≡ fine l
+further-second (fine m) b l not e = absurd (not m refl)
+further-second (wrong n) b l not e = rw e
+further-second short b l not e = rw e
+
+further-back : (a b : Scan) (l : Lookup) → further a b ≡ fine l → (a ≡ fine l) ⊎ (b ≡ fine l)
+further-back (fine m) b l e = inl e
+further-back (wrong n) (fine m) l e = inr e
+further-back (wrong n) (wrong m) l e = absurd (wrong-fine _ l e)
+further-back (wrong n) short l e = absurd (short-fine l e)
+further-back short (fine m) l e = inr e
+further-back short (wrong m) l e = absurd (short-fine l e)
+further-back short short l e = absurd (short-fine l e)
+
+-- ---- the words of a ligature lookup say its component number
+-- the number behind the first rule's ligature; 0 where there is no rule
+componentsAt : List ℕ → ℕ
+componentsAt ws = behind (drop (9 + 2 * getD ws 6 0) ws)
+  where
+    behind : List ℕ → ℕ
+    behind block = getD block (suc (getD block 0 0 + 1)) 0
+
+components-none : (flags n : ℕ) → componentsAt (ligature flags n []) ≡ 0
+unfolding componentsAt ligature ligatureOf sets offsets joined
+components-none flags n = refl
+
+-- the blocks lie behind offsets and coverage
+behind-heads : (flags n : ℕ) (groups : List (List Rule)) → drop (9 + 2 * length groups) (ligatureOf flags n groups) ≡ joined (map (setWords n) groups)
+unfolding ligatureOf
+behind-heads flags n groups =
+    let os : List ℕ = offsets (10 + 4 * length groups) (map (setWords n) groups) in
+    let leads : List ℕ = map leader groups in
+    let many : length (os ++ (1 ∷ length leads ∷ leads)) ≡ 2 + 2 * length groups =
+    length-append os (1 ∷ length leads ∷ leads) ∙ omega (arith, length-offsets (10 + 4 * length groups) (map (setWords n) groups), length-map groups (setWords n), length-map groups leader)
+    in
+    rw (← append-assoc os (1 ∷ length leads ∷ leads) (joined (map (setWords n) groups)))
+    (drop-at (4 ∷ flags ∷ 1 ∷ 8 ∷ 1 ∷ (6 + 2 * length groups) ∷ length groups ∷ (os ++ (1 ∷ length leads ∷ leads))) (joined (map (setWords n) groups)) (9 + 2 * length groups) (omega (arith, many)))
+
+component-in : (n : ℕ) (r : Rule) (set : List Rule) (ws : List ℕ) → getD (setWords n (r ∷ set) ++ ws) (suc (suc (length set) + 1)) 0 ≡ n
+unfolding setWords joined ruleWords
+component-in n r set ws =
+    let os : List ℕ = offsets (2 + 2 * suc (length set)) (map (ruleWords n) (r ∷ set)) in
+    let many : length os ≡ suc (length set) = length-offsets (2 + 2 * suc (length set)) (map (ruleWords n) (r ∷ set)) ∙ ap suc (length-map set (ruleWords n)) in
+    let rest : List ℕ = joined (map (ruleWords n) (r ∷ set)) ++ ws in
+    rw (append-assoc os (joined (map (ruleWords n) (r ∷ set))) ws) (ap (λ (x : ℕ). getD (os ++ rest) (x + 1) 0) (sym many) ∙ getD-append-add os rest 1 0)
+
+components-some : (flags n : ℕ) (r : Rule) (rs : List Rule) → componentsAt (ligature flags n (r ∷ rs)) ≡ n
+unfolding componentsAt ligature ligatureOf joined setWords
+components-some flags n r rs =
+    let set : List Rule = take (run (first r) rs) rs in
+    let others : List (List Rule) = sets (drop (run (first r) rs) rs) in
+    rw (sets-run r rs, behind-heads flags n ((r ∷ set) ∷ others)) (component-in n r set (joined (map (setWords n) others)))
+
+-- ---- scans of the other kinds
+ligature-no-single : (apart flags n : ℕ) (rs : List Rule) (l : Lookup) → singleScan apart (ligature flags n rs) ≡ fine l → ⊥
+unfolding ligature ligatureOf single
+ligature-no-single apart flags n rs l e =
+    let z : _≡_ {A = ℕ} 4 1 = ap (λ (ws : List ℕ). getD ws 0 0) (single-back apart (ligature flags n rs) l e .made) in
+    omega arith
+
+-- a rule of n components is read with n, or not at all
+ligature-one-number : (flags n m : ℕ) (r : Rule) (rs : List Rule) (l : Lookup) → 0 < n → 0 < m → ligatureScan m (ligature flags n (r ∷ rs)) ≡ fine l → n ≡ m
+ligature-one-number flags n m r rs l low some e =
+    let b = ligature-back m some (ligature flags n (r ∷ rs)) l e in
+    go (rules m (l .glyphs) (l .substitutes)) (sym (components-some flags n r rs) ∙ ap componentsAt (b .made))
+  where
+    go : (qs : List Rule) → n ≡ componentsAt (ligature (l .flags) m qs) → n ≡ m
+    go [] e = absurd (omega (arith, e, components-none (l .flags) m))
+    go (q ∷ qs) e = e ∙ components-some (l .flags) m q qs
+
+-- ---- what is written is accepted, and reads as it was
+single-accepted :
+    (flags : ℕ) (glyphs substitutes : List ℕ) → length glyphs ≡ length substitutes * 1 → fits (single flags glyphs substitutes) ≡ true → rising 0 glyphs ≡ true
+    → scan (single flags glyphs substitutes) ≡ fine (lookupOf flags Single glyphs substitutes)
+unfolding scan single
+single-accepted flags glyphs substitutes even fit up =
+    let n : ℕ = length substitutes in
+    let a = fits-parts (1 ∷ flags ∷ 1 ∷ 8 ∷ 2 ∷ []) ((6 + 2 * n) ∷ n ∷ (substitutes ++ (1 ∷ length glyphs ∷ glyphs))) fit .1 in
+    let b = fits-parts ((6 + 2 * n) ∷ n ∷ substitutes) (1 ∷ length glyphs ∷ glyphs) a in
+    let few : n ≤ mostSingle = omega (arith, fits-head (6 + 2 * n) (n ∷ substitutes) (b .0) .0) in
+    rw (single-on 0 flags glyphs substitutes (omega arith) few up (fits-parts (1 ∷ length glyphs ∷ []) glyphs (b .1) .1))
+
+-- no rule: as with 2 components
+none-accepted : (flags n : ℕ) → fits (ligature flags n []) ≡ true → scan (ligature flags n []) ≡ fine (lookupOf flags (Ligature 2) [] [])
+unfolding scan ligature ligatureOf sets offsets joined rules
+none-accepted flags n fit =
+    further-second (singleScan 0 (ligature flags n [])) (further (ligatureScan 2 (ligature flags n [])) (ligatureScan 3 (ligature flags n []))) (lookupOf flags (Ligature 2) [] [])
+    (λ m. ligature-no-single 0 flags n [] m)
+    (rw (ligature-on 2 (omega arith) flags [] [] refl refl fit))
+
+module _ (flags n : ℕ) (r : Rule) (rs : List Rule) (l : Lookup) where
+  some-accepted : (n ≡ 2) ⊎ (n ≡ 3) → ligatureScan n (ligature flags n (r ∷ rs)) ≡ fine l → scan (ligature flags n (r ∷ rs)) ≡ fine l
+  unfolding scan
+  some-accepted c e =
+      further-second (singleScan 0 ws) (further (ligatureScan 2 ws) (ligatureScan 3 ws)) l (λ m. ligature-no-single 0 flags n (r ∷ rs) m) (go c)
+    where
+      ws : List ℕ
+      ws = ligature flags n (r ∷ rs)
+      go : (n ≡ 2) ⊎ (n ≡ 3) → further (ligatureScan 2 ws) (ligatureScan 3 ws) ≡ fine l
+      go (inl z) = ap (λ (s : Scan). further s (ligatureScan 3 ws)) (ap (λ (k : ℕ). ligatureScan k ws) (sym z) ∙ e)
+      go (inr z) =
+          further-second (ligatureScan 2 ws) (ligatureScan 3 ws) l (λ m d. not-both (ligature-one-number flags n 2 r rs m (omega arith) (omega arith) d)) (ap (λ (k : ℕ). ligatureScan k ws) (sym z) ∙ e)
+        where
+          not-both : n ≡ 2 → ⊥
+          not-both y = omega arith
+
+-- "component number other than 2 or 3"
+two-or-three : (n : ℕ) → known (Ligature n) ≡ true → (n ≡ 2) ⊎ (n ≡ 3)
+two-or-three n e = go (eqb n 2) (eqb n 3) refl refl e
+  where
+    go : (a b : Bool) → eqb n 2 ≡ a → eqb n 3 ≡ b → (a || b) ≡ true → (n ≡ 2) ⊎ (n ≡ 3)
+    go true b p q e = inl (eqb-true n 2 p)
+    go false true p q e = inr (eqb-true n 3 q)
+    go false false p q e = absurd (false≢true e)
+
+ligature-accepted :
+    (flags n : ℕ) (components ligatures : List ℕ) → known (Ligature n) ≡ true → length components ≡ length ligatures * n
+    → fits (ligature flags n (rules n components ligatures)) ≡ true → rising 0 (map first (rules n components ligatures)) ≡ true
+    → scan (ligature flags n (rules n components ligatures)) ≡ fine (lookupOf flags (kindRead (Ligature n) ligatures) components ligatures)
+unfolding rules
+ligature-accepted flags n [] [] named even fit up = none-accepted flags n fit
+ligature-accepted flags n (c ∷ components) [] named even fit up = absurd (omega (arith, zero-mul n))
+ligature-accepted flags n components (l ∷ ligatures) named even fit up =
+    let c = two-or-three n named in
+    some-accepted flags n (record { components = take n components; ligature = l }) (rules n (drop n components) ligatures) (lookupOf flags (Ligature n) components (l ∷ ligatures)) c
+    (ligature-on n (low c) flags components (l ∷ ligatures) even up fit)
+  where
+    low : (n ≡ 2) ⊎ (n ≡ 3) → 0 < n
+    low (inl z) = omega arith
+    low (inr z) = omega arith
+
+pub accepted-written : (l : Lookup) → Readable l → scan (wordsOf l) ≡ fine (asRead l)
+accepted-written l r = go (l .kind) (r .even) (r .named) (r .fit) (r .up)
+  where
+    go :
+        (kind : Kind) → length (l .glyphs) ≡ length (l .substitutes) * width kind → known kind ≡ true → fits (laidOut kind (l .flags) (l .glyphs) (l .substitutes)) ≡ true
+        → rising 0 (firstsIn kind (l .glyphs) (l .substitutes)) ≡ true
+        → scan (laidOut kind (l .flags) (l .glyphs) (l .substitutes)) ≡ fine (lookupOf (l .flags) (kindRead kind (l .substitutes)) (l .glyphs) (l .substitutes))
+    go Single even named fit up = single-accepted (l .flags) (l .glyphs) (l .substitutes) even fit up
+    go (Ligature n) even named fit up = ligature-accepted (l .flags) n (l .glyphs) (l .substitutes) named even fit up
+
+-- two lookups with the same words read alike: a lookup that is as it reads has its words alone
+pub written-once : (l m : Lookup) → Readable l → Readable m → wordsOf l ≡ wordsOf m → asRead l ≡ asRead m
+written-once l m r q e = same-fine (asRead l) (asRead m) (sym (accepted-written l r) ∙ ap scan e ∙ accepted-written m q)
+
+-- ---- what is read was written
+module _ (ws : List ℕ) (l : Lookup) (fit : fits ws ≡ true) where
+  of-kind :
+      (kind : Kind) → l .kind ≡ kind → known kind ≡ true → length (l .glyphs) ≡ length (l .substitutes) * width kind
+      → rising 0 (firstsIn kind (l .glyphs) (l .substitutes)) ≡ true → ws ≡ laidOut kind (l .flags) (l .glyphs) (l .substitutes)
+      → Readable l × (ws ≡ wordsOf l)
+  of-kind kind z named even up made =
+      let all : ws ≡ wordsOf l = rw z made in
+      (record { even = rw z even; named = rw z named; fit = ap fits (sym all) ∙ fit; up = rw z up }, all)
+
+  of-single : SingleRead 0 ws l → Readable l × (ws ≡ wordsOf l)
+  of-single s = of-kind Single (s .kind) refl (omega (arith, s .even)) (s .up) (s .made)
+
+  of-ligature : (n : ℕ) → known (Ligature n) ≡ true → LigatureRead n ws l → Readable l × (ws ≡ wordsOf l)
+  of-ligature n named s = of-kind (Ligature n) (s .kind) named (s .even) (s .up) (s .made)
+
+  was-written : scan ws ≡ fine l → Readable l × (ws ≡ wordsOf l)
+  unfolding scan
+  was-written e = first-of (further-back (singleScan 0 ws) (further (ligatureScan 2 ws) (ligatureScan 3 ws)) l e)
+    where
+      second-of : (ligatureScan 2 ws ≡ fine l) ⊎ (ligatureScan 3 ws ≡ fine l) → Readable l × (ws ≡ wordsOf l)
+      second-of (inl e) = of-ligature 2 refl (ligature-back 2 (omega arith) ws l e)
+      second-of (inr e) = of-ligature 3 refl (ligature-back 3 (omega arith) ws l e)
+      first-of : (singleScan 0 ws ≡ fine l) ⊎ (further (ligatureScan 2 ws) (ligatureScan 3 ws) ≡ fine l) → Readable l × (ws ≡ wordsOf l)
+      first-of (inl e) = of-single (single-back 0 ws l e)
+      first-of (inr e) = second-of (further-back (ligatureScan 2 ws) (ligatureScan 3 ws) l e)
+
+  pub read-is-written : scan ws ≡ fine l → IsWritten ws l
+  read-is-written e =
+      let m = was-written e in
+      record { readable = m .0; made = m .1; same = same-fine (asRead l) l (sym (accepted-written l (m .0)) ∙ ap scan (sym (m .1)) ∙ e) }

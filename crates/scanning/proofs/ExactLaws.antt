@@ -1,16 +1,17 @@
 -- Acceptance word by word is exact: what is written is accepted and reads as it was (`accepted-written`), and what is read was written (`read-is-written`); two lookups with the same words read alike (`written-once`). The same of bytes (`bytes-accepted`, `bytes-written`), and in one statement (`exact`).
 -- Assumes nothing.
 use mathlib.Core.Path.{_≡_, refl, sym, ap, _∙_}
-use mathlib.Core.Bool.{Bool, true, false, cond, _||_, false≢true}
+use mathlib.Core.Bool.{Bool, true, false, cond, not, _||_, false≢true}
 use mathlib.Core.Logic.{_⊎_, inl, inr}
 use mathlib.Core.List.{List, [], _∷_, _++_, map, append-assoc}
 use Prim.Native.Nat.{ℕ, zero, suc, _+_, _-_, _*_, _/_, _%_, _<_, _≤_}
 use native.Mathlib.Nat.{zero-mul}
 use native.Mathlib.Omega.{arith}
-use borrow.Author.Tests.{eqb-true, eqb-false, eq-eqb}
+use borrow.Author.Tests.{eqb-true, eq-eqb, le-ltb, not-false}
 use lib.Dec.{eqb}
 use lib.ListN.{length, getD, take, drop, length-map, length-append}
 use lib.Seq.{drop-at, getD-append-add}
+use Rattle.laws.proofs.RowLaws.{first-none}
 use Rattle.refusals.specs.Columns.{rising}
 use Rattle.words.specs.Words.{bytes, wordsAt}
 use Rattle.words.proofs.WordLaws.{length-bytes, read-back, bytes-read, words-fit}
@@ -18,10 +19,11 @@ use Rattle.layouts.specs.declared.Kind.{Kind}
 use Rattle.layouts.specs.declared.Kind.the-variants.{Single, Ligature}
 use Rattle.layouts.specs.Tables.{Rule, first, leader, sets, offsets, joined, ruleWords, setWords, single, ligatureOf, ligature}
 use Rattle.layouts.specs.Lookups.{Lookup, lookupOf, width, known, rules, laidOut, wordsOf, firstsIn, firsts, fits}
+use Rattle.layouts.specs.Written.{rowsOf, writeRefusal}
 use Rattle.layouts.proofs.FitLaws.{fits-parts, fits-head, fits-lent}
 use Rattle.layouts.proofs.SetLaws.{run, sets-run}
 use Rattle.scanning.specs.Scans.{Scan, fine, wrong, short, further}
-use Rattle.scanning.specs.Grammar.{mostSingle, singleScan, ligatureScan, scan, reading}
+use Rattle.scanning.specs.Grammar.{mostSingle, singleScan, ligatureScan, scan, leftOver, reading}
 use Rattle.scanning.specs.Exact.{kindRead, asRead, Readable, IsWritten, WrittenAs, Accepted, Written, Exact}
 use Rattle.scanning.proofs.TakeLaws.{wrong-fine, short-fine, same-fine}
 use Rattle.scanning.proofs.PlaceLaws.{length-offsets}
@@ -205,3 +207,66 @@ module _ (ws : List ℕ) (l : Lookup) (fit : fits ws ≡ true) where
   read-is-written e =
       let m = was-written e in
       record { readable = m .0; made = m .1; same = same-fine (asRead l) l (sym (accepted-written l (m .0)) ∙ ap scan (sym (m .1)) ∙ e) }
+
+-- ---- bytes
+reading-words : (ws : List ℕ) → reading (bytes ws) ≡ scan ws
+unfolding reading
+reading-words ws = rw (length-bytes ws, even (length ws), half (length ws)) (ap scan (read-back ws))
+  where
+    even : (n : ℕ) → 2 * n % 2 ≡ 0
+    even n = omega arith
+    half : (n : ℕ) → 2 * n / 2 ≡ n
+    half n = omega arith
+
+pub bytes-accepted : (l : Lookup) → Readable l → reading (bytes (wordsOf l)) ≡ fine (asRead l)
+bytes-accepted l r = reading-words (wordsOf l) ∙ accepted-written l r
+
+-- an odd number of bytes is not read, and else they are words
+reading-back : (b : List ℕ) (l : Lookup) → reading b ≡ fine l → (length b ≡ 2 * (length b / 2)) × (scan (wordsAt b 0 (length b / 2)) ≡ fine l)
+unfolding reading
+reading-back b l e = go (eqb (length b % 2) 0) refl (scan (wordsAt b 0 (length b / 2))) e
+  where
+    go : (t : Bool) → eqb (length b % 2) 0 ≡ t → (s : Scan) → cond t s (leftOver s) ≡ fine l → (length b ≡ 2 * (length b / 2)) × (s ≡ fine l)
+    go true h s e = (omega (arith, eqb-true (length b % 2) 0 h), e)
+    go false h (fine m) e = absurd (wrong-fine 0 l e)
+    go false h (wrong n) e = absurd (wrong-fine n l e)
+    go false h short e = absurd (short-fine l e)
+
+pub bytes-written : (b : List ℕ) → ((i : ℕ) → getD b i 0 < 256) → (l : Lookup) → reading b ≡ fine l → (b ≡ bytes (wordsOf l)) × IsWritten (wordsOf l) l
+bytes-written b h l e =
+    let m = reading-back b l e in
+    let w = read-is-written (wordsAt b 0 (length b / 2)) l (fits-lent (wordsAt b 0 (length b / 2)) (words-fit b h 0 (length b / 2))) (m .1) in
+    (sym (bytes-read (length b / 2) b (m .0) h) ∙ ap bytes (w .made), record { readable = w .readable; made = refl; same = w .same })
+
+-- ---- the writer does not refuse
+unrefused : (l : Lookup) (room : ℕ) → Readable l → 2 * length (wordsOf l) ≤ room → writeRefusal l room ≡ 0
+unfolding writeRefusal
+unrefused l room r h = rw (eq-eqb (length (l .glyphs)) (length (l .substitutes) * width (l .kind)) (r .even), r .named, r .fit, le-ltb room (2 * length (wordsOf l)) h)
+
+readable : (l : Lookup) (room : ℕ) → writeRefusal l room ≡ 0 → rising 0 (firsts l) ≡ true → Readable l
+unfolding writeRefusal
+readable l room e up =
+    let a = first-none 0 (not (eqb (length (l .glyphs)) (length (l .substitutes) * width (l .kind)))) (drop 1 (rowsOf l room)) e in
+    let b = first-none 2 (not (known (l .kind))) (drop 2 (rowsOf l room)) (a .1) in
+    let c = first-none 4 (not (fits (wordsOf l))) (drop 3 (rowsOf l room)) (b .1) in
+    record {
+      even = eqb-true (length (l .glyphs)) (length (l .substitutes) * width (l .kind)) (not-false _ (a .0));
+      named = not-false _ (b .0);
+      fit = not-false _ (c .0);
+      up = up;
+    }
+
+pub exact : (b : List ℕ) → ((i : ℕ) → getD b i 0 < 256) → Exact b
+exact b h = (on, back)
+  where
+    on : Accepted b → Written b
+    on a =
+        let m = bytes-written b h (a .0) (a .1) in
+        let r = m .1 .readable in
+        (a .0, record {
+          unrefused = unrefused (a .0) (length b) r (omega (arith, ap length (m .0), length-bytes (wordsOf (a .0))));
+          made = m .0;
+          up = r .up;
+        })
+    back : Written b → Accepted b
+    back w = (asRead (w .0), ap reading (w .1 .made) ∙ bytes-accepted (w .0) (readable (w .0) (length b) (w .1 .unrefused) (w .1 .up)))

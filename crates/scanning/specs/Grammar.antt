@@ -105,7 +105,7 @@ unfoldable pub scan : Rest
 scan ws = further (singleScan 0 ws) (further (ligatureScan 2 ws) (ligatureScan 3 ws))
 
 -- bytes are read as words; of an odd number of bytes one is left over behind the last word
-abbrev leftOver : Scan → Scan
+abbrev pub leftOver : Scan → Scan
 leftOver (fine l) = wrong 0
 leftOver (wrong n) = wrong n
 leftOver short = short

@@ -3,103 +3,31 @@
 use mathlib.Core.Path.{_≡_, refl, sym, ap, _∙_}
 use mathlib.Core.Bool.{Bool, true, false, cond, not, _||_, false≢true}
 use mathlib.Core.Logic.{_⊎_, inl, inr}
-use mathlib.Core.List.{List, [], _∷_, _++_, map, append-assoc}
-use Prim.Native.Nat.{ℕ, zero, suc, _+_, _-_, _*_, _/_, _%_, _<_, _≤_}
+use mathlib.Core.List.{List, [], _∷_, _++_, map}
+use Prim.Native.Nat.{ℕ, _+_, _*_, _/_, _%_, _<_, _≤_}
 use native.Mathlib.Nat.{zero-mul}
 use native.Mathlib.Omega.{arith}
 use borrow.Author.Tests.{eqb-true, eq-eqb, le-ltb, not-false}
 use lib.Dec.{eqb}
-use lib.ListN.{length, getD, take, drop, length-map, length-append}
-use lib.Seq.{drop-at, getD-append-add}
+use lib.ListN.{length, getD, take, drop}
 use Rattle.laws.proofs.RowLaws.{first-none}
 use Rattle.refusals.specs.Columns.{rising}
 use Rattle.words.specs.Words.{bytes, wordsAt}
 use Rattle.words.proofs.WordLaws.{length-bytes, read-back, bytes-read, words-fit}
 use Rattle.layouts.specs.declared.Kind.{Kind}
 use Rattle.layouts.specs.declared.Kind.the-variants.{Single, Ligature}
-use Rattle.layouts.specs.Tables.{Rule, first, leader, sets, offsets, joined, ruleWords, setWords, single, ligatureOf, ligature}
+use Rattle.layouts.specs.Tables.{Rule, first, sets, offsets, joined, single, ligatureOf, ligature}
 use Rattle.layouts.specs.Lookups.{Lookup, lookupOf, width, known, rules, laidOut, wordsOf, firstsIn, firsts, fits}
 use Rattle.layouts.specs.Written.{rowsOf, writeRefusal}
 use Rattle.layouts.proofs.FitLaws.{fits-parts, fits-head, fits-lent}
-use Rattle.layouts.proofs.SetLaws.{run, sets-run}
 use Rattle.scanning.specs.Scans.{Scan, fine, wrong, short, further}
 use Rattle.scanning.specs.Grammar.{mostSingle, singleScan, ligatureScan, scan, leftOver, reading}
-use Rattle.scanning.specs.Exact.{kindRead, asRead, Readable, IsWritten, WrittenAs, Accepted, Written, Exact}
+use Rattle.scanning.specs.Exact.{kindRead, asRead, Readable, IsWritten, Accepted, Written, Exact}
 use Rattle.scanning.proofs.TakeLaws.{wrong-fine, short-fine, same-fine}
-use Rattle.scanning.proofs.PlaceLaws.{length-offsets}
+use Rattle.scanning.proofs.SizeLaws.{in-most-single}
 use Rattle.scanning.proofs.SingleLaws.{SingleRead, single-on, single-back}
+use Rattle.scanning.proofs.KindLaws.{further-second, further-back, ligature-no-single, ligature-one-number}
 use Rattle.scanning.proofs.LigatureLaws.{LigatureRead, ligature-on, ligature-back}
-
--- ---- of two scans
-further-second : (a b : Scan) (l : Lookup) → ((m : Lookup) → a ≡ fine m → ⊥) → b ≡ fine l → further a b ≡ fine l
-further-second (fine m) b l not e = absurd (not m refl)
-further-second (wrong n) b l not e = rw e
-further-second short b l not e = rw e
-
-further-back : (a b : Scan) (l : Lookup) → further a b ≡ fine l → (a ≡ fine l) ⊎ (b ≡ fine l)
-further-back (fine m) b l e = inl e
-further-back (wrong n) (fine m) l e = inr e
-further-back (wrong n) (wrong m) l e = absurd (wrong-fine _ l e)
-further-back (wrong n) short l e = absurd (short-fine l e)
-further-back short (fine m) l e = inr e
-further-back short (wrong m) l e = absurd (short-fine l e)
-further-back short short l e = absurd (short-fine l e)
-
--- ---- the words of a ligature lookup say its component number
--- the number behind the first rule's ligature; 0 where there is no rule
-componentsAt : List ℕ → ℕ
-componentsAt ws = behind (drop (9 + 2 * getD ws 6 0) ws)
-  where
-    behind : List ℕ → ℕ
-    behind block = getD block (suc (getD block 0 0 + 1)) 0
-
-components-none : (flags n : ℕ) → componentsAt (ligature flags n []) ≡ 0
-unfolding componentsAt ligature ligatureOf sets offsets joined
-components-none flags n = refl
-
--- the blocks lie behind offsets and coverage
-behind-heads : (flags n : ℕ) (groups : List (List Rule)) → drop (9 + 2 * length groups) (ligatureOf flags n groups) ≡ joined (map (setWords n) groups)
-unfolding ligatureOf
-behind-heads flags n groups =
-    let os : List ℕ = offsets (10 + 4 * length groups) (map (setWords n) groups) in
-    let leads : List ℕ = map leader groups in
-    let many : length (os ++ (1 ∷ length leads ∷ leads)) ≡ 2 + 2 * length groups =
-    length-append os (1 ∷ length leads ∷ leads) ∙ omega (arith, length-offsets (10 + 4 * length groups) (map (setWords n) groups), length-map groups (setWords n), length-map groups leader)
-    in
-    rw (← append-assoc os (1 ∷ length leads ∷ leads) (joined (map (setWords n) groups)))
-    (drop-at (4 ∷ flags ∷ 1 ∷ 8 ∷ 1 ∷ (6 + 2 * length groups) ∷ length groups ∷ (os ++ (1 ∷ length leads ∷ leads))) (joined (map (setWords n) groups)) (9 + 2 * length groups) (omega (arith, many)))
-
-component-in : (n : ℕ) (r : Rule) (set : List Rule) (ws : List ℕ) → getD (setWords n (r ∷ set) ++ ws) (suc (suc (length set) + 1)) 0 ≡ n
-unfolding setWords joined ruleWords
-component-in n r set ws =
-    let os : List ℕ = offsets (2 + 2 * suc (length set)) (map (ruleWords n) (r ∷ set)) in
-    let many : length os ≡ suc (length set) = length-offsets (2 + 2 * suc (length set)) (map (ruleWords n) (r ∷ set)) ∙ ap suc (length-map set (ruleWords n)) in
-    let rest : List ℕ = joined (map (ruleWords n) (r ∷ set)) ++ ws in
-    rw (append-assoc os (joined (map (ruleWords n) (r ∷ set))) ws) (ap (λ (x : ℕ). getD (os ++ rest) (x + 1) 0) (sym many) ∙ getD-append-add os rest 1 0)
-
-components-some : (flags n : ℕ) (r : Rule) (rs : List Rule) → componentsAt (ligature flags n (r ∷ rs)) ≡ n
-unfolding componentsAt ligature ligatureOf joined setWords
-components-some flags n r rs =
-    let set : List Rule = take (run (first r) rs) rs in
-    let others : List (List Rule) = sets (drop (run (first r) rs) rs) in
-    rw (sets-run r rs, behind-heads flags n ((r ∷ set) ∷ others)) (component-in n r set (joined (map (setWords n) others)))
-
--- ---- scans of the other kinds
-ligature-no-single : (apart flags n : ℕ) (rs : List Rule) (l : Lookup) → singleScan apart (ligature flags n rs) ≡ fine l → ⊥
-unfolding ligature ligatureOf single
-ligature-no-single apart flags n rs l e =
-    let z : _≡_ {A = ℕ} 4 1 = ap (λ (ws : List ℕ). getD ws 0 0) (single-back apart (ligature flags n rs) l e .made) in
-    omega arith
-
--- a rule of n components is read with n, or not at all
-ligature-one-number : (flags n m : ℕ) (r : Rule) (rs : List Rule) (l : Lookup) → 0 < n → 0 < m → ligatureScan m (ligature flags n (r ∷ rs)) ≡ fine l → n ≡ m
-ligature-one-number flags n m r rs l low some e =
-    let b = ligature-back m some (ligature flags n (r ∷ rs)) l e in
-    go (rules m (l .glyphs) (l .substitutes)) (sym (components-some flags n r rs) ∙ ap componentsAt (b .made))
-  where
-    go : (qs : List Rule) → n ≡ componentsAt (ligature (l .flags) m qs) → n ≡ m
-    go [] e = absurd (omega (arith, e, components-none (l .flags) m))
-    go (q ∷ qs) e = e ∙ components-some (l .flags) m q qs
 
 -- ---- what is written is accepted, and reads as it was
 single-accepted :
@@ -110,7 +38,7 @@ single-accepted flags glyphs substitutes even fit up =
     let n : ℕ = length substitutes in
     let a = fits-parts (1 ∷ flags ∷ 1 ∷ 8 ∷ 2 ∷ []) ((6 + 2 * n) ∷ n ∷ (substitutes ++ (1 ∷ length glyphs ∷ glyphs))) fit .1 in
     let b = fits-parts ((6 + 2 * n) ∷ n ∷ substitutes) (1 ∷ length glyphs ∷ glyphs) a in
-    let few : n ≤ mostSingle = omega (arith, fits-head (6 + 2 * n) (n ∷ substitutes) (b .0) .0) in
+    let few : n ≤ mostSingle = in-most-single n (fits-head (6 + 2 * n) (n ∷ substitutes) (b .0) .0) in
     rw (single-on 0 flags glyphs substitutes (omega arith) few up (fits-parts (1 ∷ length glyphs ∷ []) glyphs (b .1) .1))
 
 -- no rule: as with 2 components
@@ -129,6 +57,7 @@ module _ (flags n : ℕ) (r : Rule) (rs : List Rule) (l : Lookup) where
     where
       ws : List ℕ
       ws = ligature flags n (r ∷ rs)
+
       go : (n ≡ 2) ⊎ (n ≡ 3) → further (ligatureScan 2 ws) (ligatureScan 3 ws) ≡ fine l
       go (inl z) = ap (λ (s : Scan). further s (ligatureScan 3 ws)) (ap (λ (k : ℕ). ligatureScan k ws) (sym z) ∙ e)
       go (inr z) =
@@ -199,6 +128,7 @@ module _ (ws : List ℕ) (l : Lookup) (fit : fits ws ≡ true) where
       second-of : (ligatureScan 2 ws ≡ fine l) ⊎ (ligatureScan 3 ws ≡ fine l) → Readable l × (ws ≡ wordsOf l)
       second-of (inl e) = of-ligature 2 refl (ligature-back 2 (omega arith) ws l e)
       second-of (inr e) = of-ligature 3 refl (ligature-back 3 (omega arith) ws l e)
+
       first-of : (singleScan 0 ws ≡ fine l) ⊎ (further (ligatureScan 2 ws) (ligatureScan 3 ws) ≡ fine l) → Readable l × (ws ≡ wordsOf l)
       first-of (inl e) = of-single (single-back 0 ws l e)
       first-of (inr e) = second-of (further-back (ligatureScan 2 ws) (ligatureScan 3 ws) l e)
@@ -215,6 +145,7 @@ reading-words ws = rw (length-bytes ws, even (length ws), half (length ws)) (ap 
   where
     even : (n : ℕ) → 2 * n % 2 ≡ 0
     even n = omega arith
+
     half : (n : ℕ) → 2 * n / 2 ≡ n
     half n = omega arith
 
@@ -262,11 +193,14 @@ exact b h = (on, back)
     on : Accepted b → Written b
     on a =
         let m = bytes-written b h (a .0) (a .1) in
-        let r = m .1 .readable in
-        (a .0, record {
-          unrefused = unrefused (a .0) (length b) r (omega (arith, ap length (m .0), length-bytes (wordsOf (a .0))));
-          made = m .0;
-          up = r .up;
-        })
+        let r = m .1 .readable in (
+          a .0,
+          record {
+            unrefused = unrefused (a .0) (length b) r (omega (arith, ap length (m .0), length-bytes (wordsOf (a .0))));
+            made = m .0;
+            up = r .up;
+          },
+        )
+
     back : Written b → Accepted b
     back w = (asRead (w .0), ap reading (w .1 .made) ∙ bytes-accepted (w .0) (readable (w .0) (length b) (w .1 .unrefused) (w .1 .up)))

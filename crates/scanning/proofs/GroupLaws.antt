@@ -1,10 +1,10 @@
 -- Rules, their sets and their columns: rules that begin alike (`Alike`, `Led`); the rules of their sets are the rules (`flatten-sets`), and rules put together from sets whose first glyphs rise fall into these sets (`sets-flatten`); first glyphs do not fall exactly when those of the sets rise (`leaders-rise`, `firsts-rise`);
 -- rules are what their columns hold (`rules-flat`), and columns are those of the rules that they hold (`flat-rules`, `ligatures-rules`).
 -- Assumes nothing.
-use mathlib.Core.Path.{_≡_, refl, sym, ap, ap₂, _∙_}
+use mathlib.Core.Path.{_≡_, refl, sym, ap, _∙_}
 use mathlib.Core.Bool.{Bool, true, false, cond, _&&_}
 use mathlib.Core.List.{List, [], _∷_, _++_, map, flatten}
-use Prim.Native.Nat.{ℕ, zero, suc, _+_, _*_, _<_, _≤_}
+use Prim.Native.Nat.{ℕ, _+_, _*_, _<_, _≤_}
 use native.Mathlib.Nat.{add-zero, zero-mul}
 use native.Mathlib.Omega.{arith}
 use borrow.Author.Tests.{eq-eqb, ne-eqb, le-leb, eqb-true, eqb-false, leb-true}
@@ -129,6 +129,7 @@ leaders-rise-from low (q ∷ rs) up =
       where
         b : (first q ≤ leader g) × (rises 1 (leader g + 1) (map leader gs) ≡ true)
         b = rises-parts 1 (first q) (leader g) (map leader gs) up
+
         same : (t : Bool) → eqb (first q) (leader g) ≡ t → rises 1 low (map leader (cond t ((q ∷ g) ∷ gs) ((q ∷ []) ∷ g ∷ gs))) ≡ true
         same true e = rw (le-leb low (first q) h, eqb-true (first q) (leader g) e) (b .1)
         same false e = rw (le-leb low (first q) h, le-leb (first q + 1) (leader g) (omega (arith, b .0, eqb-false (first q) (leader g) e))) (b .1)

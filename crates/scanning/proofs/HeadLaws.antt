@@ -1,8 +1,8 @@
 -- What lookups of both kinds have: the head (`headed-takes`), a count and where the coverage begins (`counted-takes`), the coverage (`covered-takes`).
 -- Assumes nothing.
-use mathlib.Core.Path.{_≡_, refl, sym, ap, _∙_}
+use mathlib.Core.Path.{_≡_, refl, sym, ap}
 use mathlib.Core.Bool.{true, _&&_}
-use mathlib.Core.List.{List, [], _∷_, _++_}
+use mathlib.Core.List.{[], _∷_, _++_}
 use Prim.Native.Nat.{ℕ, _+_, _-_, _*_, _/_, _≤_}
 use native.Mathlib.Omega.{arith}
 use borrow.Author.Tests.{eq-eqb, eqb-true, le-leb, leb-true}
@@ -37,6 +37,7 @@ counted-takes most =
           same = before-count n;
           written = rw (before-count n);
         }
+
     of : (o : ℕ) → (eqb (6 + 2 * before o) o && leb (before o) most) ≡ true → (before o ≤ most) × ((o ∷ []) ++ (before o ∷ []) ≡ (6 + 2 * before o) ∷ before o ∷ [])
     of o h =
         let b = both (eqb (6 + 2 * before o) o) (leb (before o) most) h in

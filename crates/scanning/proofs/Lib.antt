@@ -1,4 +1,4 @@
--- The laws of `scanning`.
+-- The laws of `scanning`: scans and what they take; the parts of both kinds of lookup; single lookups; rules, sets and limits; ligature lookups; that acceptance is exact; examples.
 -- Assumes nothing.
 pub mod TakeLaws
 pub mod HeadLaws
@@ -8,4 +8,6 @@ pub mod SizeLaws
 pub mod RuleLaws
 pub mod PlaceLaws
 pub mod LigatureLaws
+pub mod KindLaws
 pub mod ExactLaws
+pub mod ScanExamples

@@ -1,28 +1,26 @@
 -- Of ligature lookups of n components: the scan takes those that fit and whose first glyphs do not fall (`ligature-on`), and no other (`ligature-back`, `LigatureRead`).
 -- Assumes nothing.
 use mathlib.Core.Path.{_≡_, refl, sym, ap, _∙_}
-use mathlib.Core.Bool.{true, _&&_}
+use mathlib.Core.Bool.{true}
 use mathlib.Core.List.{List, [], _∷_, _++_, map, flatten}
 use Prim.Native.Nat.{ℕ, zero, suc, _+_, _-_, _*_, _<_, _≤_}
 use native.Mathlib.Nat.{mul-le-mul-right, zero-mul}
 use native.Mathlib.Omega.{arith}
 use borrow.Author.Tests.{lt-ltb, ltb-true}
-use lib.Dec.{ltb}
 use lib.ListN.{length, getD, length-map}
-use Rattle.laws.proofs.TestLaws.{both}
 use Rattle.refusals.specs.Columns.{rising}
 use Rattle.layouts.specs.declared.Kind.the-variants.{Ligature}
 use Rattle.layouts.specs.Tables.{Rule, first, leader, sets, offsets, joined, ruleWords, setWords, ligatureOf, ligature}
 use Rattle.layouts.specs.Lookups.{Lookup, lookupOf, rules, fits}
 use Rattle.layouts.proofs.FitLaws.{fits-parts, fits-head}
-use Rattle.layouts.proofs.SetLaws.{Wide, wide-rules, Grouped, grouped, set-size, set-fits}
+use Rattle.layouts.proofs.SetLaws.{wide-rules, Grouped, grouped, set-size, set-fits}
 use Rattle.scanning.specs.Scans.{Rest, fine, any, exactly, end}
 use Rattle.scanning.specs.Grammar.{headed, counted, covered, setSize, mostRules, mostSets, isSize, starts, flat, ligaturesOf, ligatureScan}
-use Rattle.scanning.proofs.TakeLaws.{Takes, two-takes, behind-takes, passed, Ended, ends, ended}
+use Rattle.scanning.proofs.TakeLaws.{Takes, two-takes, behind-takes, passed, ends, ended}
 use Rattle.scanning.proofs.HeadLaws.{headed-takes, counted-takes, covered-takes}
-use Rattle.scanning.proofs.GroupLaws.{Alike, Led, led-sets, flatten-sets, sets-flatten, leaders-rise, firsts-rise, wide-flatten, flat-rules, ligatures-rules, rules-flat, length-flat}
+use Rattle.scanning.proofs.GroupLaws.{Led, led-sets, flatten-sets, sets-flatten, leaders-rise, firsts-rise, wide-flatten, flat-rules, ligatures-rules, rules-flat, length-flat}
 use Rattle.scanning.proofs.SizeLaws.{in-most-rules, in-most-sets, size-on}
-use Rattle.scanning.proofs.PlaceLaws.{length-offsets, spaces, spaced, Spaced, spaced-apart, starts-takes, grouping, settled-grouping, Sound, Placed, grouping-takes}
+use Rattle.scanning.proofs.PlaceLaws.{length-offsets, spaced, Spaced, spaced-apart, starts-takes, grouping, settled-grouping, Sound, Placed, grouping-takes}
 
 -- flags, how many sets, where they begin, their first glyphs, the sets
 abbrev Parts : Type 0
@@ -67,8 +65,8 @@ module _ (n : ℕ) where
     ligature-takes =
         two-takes (headed-takes 4)
         (λ flags f. behind-takes (1 ∷ [])
-          (two-takes (counted-takes (mostSets n))
-            (λ s c. two-takes (starts-takes n s) (λ os b. two-takes (covered-takes 1 s) (λ leads d. grouping-takes n low leads os (d .0 ∙ sym (b .0)) (spaced-apart n s os (b .1)))))))
+        (two-takes (counted-takes (mostSets n))
+        (λ s c. two-takes (starts-takes n s) (λ os b. two-takes (covered-takes 1 s) (λ leads d. grouping-takes n low leads os (d .0 ∙ sym (b .0)) (spaced-apart n s os (b .1)))))))
 
     -- ---- forward
     length-begins : (o : ℕ) (groups : List (List Rule)) → length (offsets o (map (setWords n) groups)) ≡ length groups
@@ -107,10 +105,11 @@ module _ (n : ℕ) where
     sound [] k d e = tt
     sound (g ∷ gs) k d e =
         let a = fits-parts (setWords n g) (joined (map (setWords n) gs)) e in
-        (k .0, in-most-rules n (length g) (few g (k .1) (k .0) (a .0)), k .1, d .1, sound gs (k .2) (d .2) (a .1))
+        (k .0, few (length g) (k .0) (ltb-true (length g * (4 + 2 * n)) (65536 + 2 * n) (sym (set-fits n low g (k .1) (bodies-fit g (a .0)) (k .0)) ∙ a .0)), k .1, d .1, sound gs (k .2) (d .2) (a .1))
       where
-        few : (g : List Rule) → Wide n g → 0 < length g → fits (setWords n g) ≡ true → length g * (4 + 2 * n) < 65536 + 2 * n
-        few g w h e = ltb-true (length g * (4 + 2 * n)) (65536 + 2 * n) (sym (set-fits n low g w (bodies-fit g e) h) ∙ e)
+        few : (c : ℕ) → 0 < c → c * (4 + 2 * n) < 65536 + 2 * n → c ≤ mostRules n
+        few zero h e = absurd (omega arith)
+        few (suc c) h e = in-most-rules n c (omega arith)
 
     -- where they begin
     begun :
@@ -140,10 +139,19 @@ module _ (n : ℕ) where
         let begin = begun groups fine-sets (a .0) in
         ap (λ (r : Rest). r (ligatureOf flags n groups)) scan-groups
         ∙ rw (length-map groups leader)
-        (ends ligature-takes (λ p. saidBy (p .0) (p .1 .1 .1 .1)) (flags, (s, (os, (leads, groups))))
-          (refl, (begin .0, ((length-begins (10 + 4 * s) groups, begin .1),
-            ((length-map groups leader, up, fits-parts (1 ∷ length leads ∷ []) leads (b .0) .1),
-            record { sound = fine-sets; heads = refl; begins = offsets-begin (10 + 4 * s) (map (setWords n) groups) })))))
+        (ends ligature-takes (λ p. saidBy (p .0) (p .1 .1 .1 .1)) (flags, (s, (os, (leads, groups)))) (
+          refl,
+          (
+            begin .0,
+            (
+              (length-begins (10 + 4 * s) groups, begin .1),
+              (
+                (length-map groups leader, up, fits-parts (1 ∷ length leads ∷ []) leads (b .0) .1),
+                record { sound = fine-sets; heads = refl; begins = offsets-begin (10 + 4 * s) (map (setWords n) groups) },
+              ),
+            ),
+          ),
+        ))
 
     pub ligature-on :
         (flags : ℕ) (components ligatures : List ℕ) → length components ≡ length ligatures * n → rising 0 (map first (rules n components ligatures)) ≡ true

@@ -15,7 +15,7 @@ use Rattle.scanning.specs.Scans.{Rest, next}
 use Rattle.scanning.specs.Grammar.{setSize, mostRules, isSize, later, starts, grouped, settled}
 use Rattle.scanning.proofs.TakeLaws.{Takes, Said, two-takes, said-takes, behind-takes, passed, each-takes}
 use Rattle.scanning.proofs.GroupLaws.{Alike, leader-alike}
-use Rattle.scanning.proofs.SizeLaws.{size-back}
+use Rattle.scanning.proofs.SizeLaws.{size-back, size-once}
 use Rattle.scanning.proofs.RuleLaws.{OfSet, set-takes}
 
 -- ---- where sets begin
@@ -59,6 +59,7 @@ module _ (n : ℕ) where
     where
       o : ℕ
       o = 10 + 4 * suc s
+
       to : (os : List ℕ) → (length os ≡ suc s) × Spaced (suc s) os → Said (λ os. (length os ≡ s) × (spaced o os ≡ true)) (λ os. (o ∷ []) ++ os) (λ os. o ∷ os) os os
       to [] h = absurd (omega (arith, h .0))
       to (w ∷ os) h =
@@ -135,16 +136,19 @@ module _ (n : ℕ) (low : 0 < n) where
             written = append-nil (setWords n g);
           }
       to (g ∷ f ∷ gs) h = absurd (nil≢cons (tail-eq-of-cons-eq (h .heads)))
+
       of : (g : List Rule) → OfSet n low lead counts g → Placed n (lead ∷ []) (o ∷ []) (g ∷ []) × (setWords n g ≡ blocksOf (g ∷ []))
       of g h =
           let b = both (leb 1 (length g)) (leb (length g) (mostRules n)) (h .0) in
           let one = leb-true 1 (length g) (b .0) in
-          let e = leader-alike lead g one (h .2) in
-          (record {
-            sound = (one, leb-true (length g) (mostRules n) (b .1), h .1, rw e (h .2), tt);
-            heads = ap (λ (x : ℕ). x ∷ []) (sym e);
-            begins = refl;
-          }, sym (append-nil (setWords n g)))
+          let e = leader-alike lead g one (h .2) in (
+            record {
+              sound = (one, leb-true (length g) (mostRules n) (b .1), h .1, rw e (h .2), tt);
+              heads = ap (λ (x : ℕ). x ∷ []) (sym e);
+              begins = refl;
+            },
+            sym (append-nil (setWords n g)),
+          )
 
   -- another set: as many rules as there is room before the next
   abbrev reaches : ℕ → ℕ → ℕ → Bool
@@ -174,23 +178,31 @@ module _ (n : ℕ) (low : 0 < n) where
           let f = offsets-first (o + 2 * length (setWords n g)) p os (map (setWords n) gs) t in
           record {
             from = (g, gs);
-            holds =
-                ((eq-eqb (o + setSize n (length g)) p (sym (f ∙ ap (λ (x : ℕ). o + x) (set-size n low g (s .2)))), s .2, rw (head-eq-of-cons-eq (h .heads)) (s .3)),
-                record { sound = s .4; heads = tail-eq-of-cons-eq (h .heads); begins = rw (← f) at t });
+            holds = (
+              (eq-eqb (o + setSize n (length g)) p (sym (f ∙ ap (λ (x : ℕ). o + x) (set-size n low g (s .2)))), s .2, rw (head-eq-of-cons-eq (h .heads)) (s .3)),
+              record { sound = s .4; heads = tail-eq-of-cons-eq (h .heads); begins = rw (← f) at t },
+            );
             same = refl;
             written = refl;
           }
+
       of : (q : List Rule × List (List Rule)) → OfSet n low lead (reaches o p) (q .0) × Placed n leads (p ∷ os) (q .1)
           → Placed n (lead ∷ leads) (o ∷ (p ∷ os)) (q .0 ∷ q .1) × (setWords n (q .0) ++ blocksOf (q .1) ≡ blocksOf (q .0 ∷ q .1))
       of q h =
           let g = q .0 in
           let reach = eqb-true (o + setSize n (length g)) p (h .0 .0) in
-          let size : setSize n (length g) ≡ p - o = omega arith in
-          let b = size-back n (length g) (p - o) (both (isSize n (p - o)) (ltb (p + length os * setSize n 1) 65536) (both (spaces n (length os) o p) (spaced n p os) s .0) .0) size in
-          let lead-is = leader-alike lead g (b .0) (h .0 .2) in
-          (record {
-            sound = (b .0, b .1, h .0 .1, rw lead-is (h .0 .2), h .1 .sound);
-            heads = ap₂ (λ (x : ℕ) (xs : List ℕ). x ∷ xs) (sym lead-is) (h .1 .heads);
-            begins =
-                ap (λ (xs : List ℕ). o ∷ xs) (h .1 .begins ∙ ap (λ (x : ℕ). offsets x (map (setWords n) (q .1))) (sym (ap (λ (x : ℕ). o + x) (set-size n low g (h .0 .1)) ∙ reach)));
-          }, refl)
+          let sized = size-back n (p - o) (both (isSize n (p - o)) (ltb (p + length os * setSize n 1) 65536) (both (spaces n (length os) o p) (spaced n p os) s .0) .0) in
+          let many = size-once n (sized .rules) (length g) (sized .size ∙ less (setSize n (length g)) reach) in
+          let one = rw many at (sized .some) in
+          let lead-is = leader-alike lead g one (h .0 .2) in (
+            record {
+              sound = (one, rw many at (sized .few), h .0 .1, rw lead-is (h .0 .2), h .1 .sound);
+              heads = ap₂ (λ (x : ℕ) (xs : List ℕ). x ∷ xs) (sym lead-is) (h .1 .heads);
+              begins =
+                  ap (λ (xs : List ℕ). o ∷ xs) (h .1 .begins ∙ ap (λ (x : ℕ). offsets x (map (setWords n) (q .1))) (sym (ap (λ (x : ℕ). o + x) (set-size n low g (h .0 .1)) ∙ reach)));
+            },
+            refl,
+          )
+        where
+          less : (x : ℕ) → o + x ≡ p → p - o ≡ x
+          less x e = omega arith

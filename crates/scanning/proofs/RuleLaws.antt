@@ -1,6 +1,6 @@
 -- Rules and sets of n components: a scan takes exactly the words of a rule (`rule-takes`), of so many rules (`ruled-takes`) and of a set whose count passes a test (`set-takes`).
 -- Assumes nothing.
-use mathlib.Core.Path.{_≡_, refl, sym, ap, _∙_}
+use mathlib.Core.Path.{_≡_, refl, sym, ap}
 use mathlib.Core.Bool.{Bool, true}
 use mathlib.Core.List.{List, [], _∷_, _++_, map}
 use Prim.Native.Nat.{ℕ, zero, suc, _+_, _-_, _*_, _<_}
@@ -29,6 +29,7 @@ module _ (n : ℕ) (low : 0 < n) (lead : ℕ) where
       whole : (cs : List ℕ) → length cs ≡ n → getD cs 0 0 ≡ lead → lead ∷ drop 1 cs ≡ cs
       whole [] e f = absurd (omega arith)
       whole (c ∷ cs) e f = ap (λ (x : ℕ). x ∷ cs) (sym f)
+
       to : (r : Rule) → OfRule r → Said (λ p. (any (p .0) ≡ true) × (length (p .1) ≡ n - 1)) (λ p. ((p .0 ∷ []) ++ (n ∷ [])) ++ p .1) ruleOf r (ruleWords n r)
       to r h =
           record {
@@ -72,5 +73,6 @@ module _ (n : ℕ) (low : 0 < n) (lead : ℕ) where
       where
         written : (set : List Rule) → Wide n set → setWords n set ≡ length set ∷ (evenly (length set) (2 + 2 * length set) (2 + 2 * n) ++ joined (map (ruleWords n) set))
         written set w = rw (offsets-rules n low set (2 + 2 * length set) w)
+
         back : (c : ℕ) (set : List Rule) → length set ≡ c → Wide n set → c ∷ (evenly c (2 + 2 * c) (2 + 2 * n) ++ joined (map (ruleWords n) set)) ≡ setWords n set
         back c set e w = rw (← e) (sym (written set w))

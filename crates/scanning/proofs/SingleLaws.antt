@@ -1,6 +1,6 @@
 -- Of single lookups: the scan takes those whose glyphs rise and fit and whose offset of the coverage is of 16 bits (`single-on`), and no other (`single-back`, `SingleRead`).
 -- Assumes nothing.
-use mathlib.Core.Path.{_≡_, refl, sym, ap, _∙_}
+use mathlib.Core.Path.{_≡_, refl, sym, _∙_}
 use mathlib.Core.Bool.{true}
 use mathlib.Core.List.{List, [], _∷_, _++_}
 use Prim.Native.Nat.{ℕ, _+_, _*_, _≤_}
@@ -11,7 +11,7 @@ use Rattle.layouts.specs.Tables.{single}
 use Rattle.layouts.specs.Lookups.{Lookup, lookupOf, fits}
 use Rattle.scanning.specs.Scans.{fine, any, exactly, several}
 use Rattle.scanning.specs.Grammar.{headed, counted, covered, mostSingle, singleScan}
-use Rattle.scanning.proofs.TakeLaws.{Takes, two-takes, behind-takes, several-takes, Ended, ends, ended}
+use Rattle.scanning.proofs.TakeLaws.{Takes, two-takes, behind-takes, several-takes, ends, ended}
 use Rattle.scanning.proofs.HeadLaws.{headed-takes, counted-takes, covered-takes}
 
 -- flags, how many, substitutes, glyphs; and the lookup that they make

@@ -4,7 +4,7 @@
 use mathlib.Core.Path.{_≡_, refl, sym, ap, _∙_}
 use mathlib.Core.Bool.{Bool, true, false, cond, _&&_}
 use mathlib.Core.List.{List, [], _∷_, _++_, append-nil, append-assoc}
-use Prim.Native.Nat.{ℕ, zero, suc, _+_, _-_, _*_, _<_, _≤_}
+use Prim.Native.Nat.{ℕ, zero, suc, _+_, _*_, _<_, _≤_}
 use native.Mathlib.Omega.{arith}
 use borrow.Author.Tests.{eq-eqb, eqb-true, le-leb, lt-ltb, leb-true, ltb-true}
 use lib.Dec.{eqb, leb, ltb}
@@ -13,7 +13,7 @@ use Rattle.laws.proofs.TestLaws.{both}
 use Rattle.refusals.specs.Columns.{rising}
 use Rattle.layouts.specs.Lookups.{Lookup, fits}
 use Rattle.layouts.proofs.FitLaws.{fits-head}
-use Rattle.scanning.specs.Scans.{Scan, Rest, fine, wrong, short, next, any, exactly, several, rise, end}
+use Rattle.scanning.specs.Scans.{Scan, Rest, fine, wrong, short, next, exactly, several, rise, end}
 
 -- ---- scans that are not fine
 abbrev isFine : Scan → ℕ
@@ -61,6 +61,7 @@ module _ {A : Type 0} {P : A → Type 0} {f : A → List ℕ} {s : (A → Rest) 
         on p h k ws =
             rw (append-assoc (f (p .0)) (g (p .0) (p .1)) ws)
             (x .on (p .0) (h .0) (λ a. t a (λ b. k (a, b))) (g (p .0) (p .1) ++ ws) ∙ y (p .0) (h .0) .on (p .1) (h .1) (λ b. k (p .0, b)) ws)
+
         back :
             (k : A × B → Rest) (ws : List ℕ) (l : Lookup) → s (λ a. t a (λ b. k (a, b))) ws ≡ fine l
             → Taken (λ p. P (p .0) × Q (p .0) (p .1)) (λ p. f (p .0) ++ g (p .0) (p .1)) k ws l
@@ -84,6 +85,7 @@ module _ {A : Type 0} {P : A → Type 0} {f : A → List ℕ} {s : (A → Rest) 
         on b q k ws =
             let m = to b q in
             rw (m .written) (x .on (m .from) (m .holds) (λ a. k (h a)) ws ∙ ap (λ (c : B). k c ws) (m .same))
+
         back : (k : B → Rest) (ws : List ℕ) (l : Lookup) → s (λ a. k (h a)) ws ≡ fine l → Taken Q g k ws l
         back k ws l e =
             let m = x .back (λ a. k (h a)) ws l e in
@@ -162,7 +164,7 @@ module _ (test : ℕ → ℕ → ℕ → Bool) (step : ℕ → ℕ) where
     each-takes (suc n) low =
         same-takes (one n low)
         (said-takes (two-takes (next-takes (test n low)) (λ w h. each-takes n (step w))) (λ p. p .0 ∷ p .1)
-          (λ ws. (length ws ≡ suc n) × (passed low ws ≡ true)) (λ ws. ws) to of)
+        (λ ws. (length ws ≡ suc n) × (passed low ws ≡ true)) (λ ws. ws) to of)
       where
         to : (ws : List ℕ) → (length ws ≡ suc n) × (passed low ws ≡ true)
             → Said {A = ℕ × List ℕ} (λ p. (test n low (p .0) ≡ true) × ((length (p .1) ≡ n) × (passed (step (p .0)) (p .1) ≡ true))) (λ p. (p .0 ∷ []) ++ p .1) (λ p. p .0 ∷ p .1) ws ws
@@ -171,6 +173,7 @@ module _ (test : ℕ → ℕ → ℕ → Bool) (step : ℕ → ℕ) where
             let c : length ws ≡ n = omega (arith, h .0) in
             let b = both (test (length ws) low w) (passed (step w) ws) (h .1) in
             record { from = (w, ws); holds = (rw c at (b .0), (c, b .1)); same = refl; written = refl }
+
         of : (p : ℕ × List ℕ) → (test n low (p .0) ≡ true) × ((length (p .1) ≡ n) × (passed (step (p .0)) (p .1) ≡ true))
             → ((length (p .0 ∷ p .1) ≡ suc n) × (passed low (p .0 ∷ p .1) ≡ true)) × ((p .0 ∷ []) ++ p .1 ≡ p .0 ∷ p .1)
         of p h = ((ap suc (h .1 .0), rw (h .1 .0, h .0) (h .1 .1)), refl)
@@ -240,6 +243,7 @@ module _ (apart : ℕ) where
       on : (ws : List ℕ) → rising apart ws ≡ true → fits ws ≡ true → climbed 0 ws ≡ true
       on [] r f = refl
       on (x ∷ xs) r f = climbed-on 0 x xs (omega arith) r f
+
       back : (ws : List ℕ) → climbed 0 ws ≡ true → (rising apart ws ≡ true) × (fits ws ≡ true)
       back [] e = (refl, refl)
       back (x ∷ xs) e = let r = climbed-back 0 x xs e in (r .1, r .2)

@@ -41,14 +41,7 @@ single-accepted flags glyphs substitutes even fit up =
     let few : n ≤ mostSingle = in-most-single n (fits-head (6 + 2 * n) (n ∷ substitutes) (b .0) .0) in
     rw (single-on 0 flags glyphs substitutes (omega arith) few up (fits-parts (1 ∷ length glyphs ∷ []) glyphs (b .1) .1))
 
--- no rule: as with 2 components
-none-accepted : (flags n : ℕ) → fits (ligature flags n []) ≡ true → scan (ligature flags n []) ≡ fine (lookupOf flags (Ligature 2) [] [])
-unfolding scan ligature ligatureOf sets offsets joined rules
-none-accepted flags n fit =
-    further-second (singleScan 0 (ligature flags n [])) (further (ligatureScan 2 (ligature flags n [])) (ligatureScan 3 (ligature flags n []))) (lookupOf flags (Ligature 2) [] [])
-    (λ m. ligature-no-single 0 flags n [] m)
-    (rw (ligature-on 2 (omega arith) flags [] [] refl refl fit))
-
+-- some rule: by its own component number, and no other
 module _ (flags n : ℕ) (r : Rule) (rs : List Rule) (l : Lookup) where
   some-accepted : (n ≡ 2) ⊎ (n ≡ 3) → ligatureScan n (ligature flags n (r ∷ rs)) ≡ fine l → scan (ligature flags n (r ∷ rs)) ≡ fine l
   unfolding scan
@@ -65,6 +58,14 @@ module _ (flags n : ℕ) (r : Rule) (rs : List Rule) (l : Lookup) where
         where
           not-both : n ≡ 2 → ⊥
           not-both y = omega arith
+
+-- no rule: as with 2 components
+none-accepted : (flags n : ℕ) → fits (ligature flags n []) ≡ true → scan (ligature flags n []) ≡ fine (lookupOf flags (Ligature 2) [] [])
+unfolding scan ligature ligatureOf sets offsets joined rules
+none-accepted flags n fit =
+    further-second (singleScan 0 (ligature flags n [])) (further (ligatureScan 2 (ligature flags n [])) (ligatureScan 3 (ligature flags n []))) (lookupOf flags (Ligature 2) [] [])
+    (λ m. ligature-no-single 0 flags n [] m)
+    (rw (ligature-on 2 (omega arith) flags [] [] refl refl fit))
 
 -- "component number other than 2 or 3"
 two-or-three : (n : ℕ) → known (Ligature n) ≡ true → (n ≡ 2) ⊎ (n ≡ 3)

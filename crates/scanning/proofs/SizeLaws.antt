@@ -46,9 +46,6 @@ module _ (n : ℕ) where
       less : (x : ℕ) → 2 + x - 2 ≡ x
       less x = omega arith
 
-  pub size-on : (c : ℕ) → 1 ≤ c → c ≤ mostRules n → isSize n (setSize n c) ≡ true
-  size-on c low few = rw (rules-in c, eq-eqb (setSize n c) (setSize n c) refl, le-leb 1 c low) (le-leb c (mostRules n) few)
-
   -- x is the size of a set of `rules` rules
   pub record Sized (x : ℕ) : Type 0 where
     pub rules : ℕ
@@ -66,6 +63,9 @@ module _ (n : ℕ) where
         some = leb-true 1 (rulesIn x) (d .0);
         few = leb-true (rulesIn x) (mostRules n) (d .1);
       }
+
+  pub size-on : (c : ℕ) → 1 ≤ c → c ≤ mostRules n → isSize n (setSize n c) ≡ true
+  size-on c low few = rw (rules-in c, eq-eqb (setSize n c) (setSize n c) refl, le-leb 1 c low) (le-leb c (mostRules n) few)
 
   -- sets of one size have as many rules
   pub size-once : (c d : ℕ) → setSize n c ≡ setSize n d → c ≡ d

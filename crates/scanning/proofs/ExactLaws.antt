@@ -1,4 +1,4 @@
--- Acceptance word by word is exact: what is written is accepted and reads as it was (`accepted-written`), and what is read was written (`read-is-written`); two lookups with the same words read alike (`written-once`). The same of bytes (`bytes-accepted`, `bytes-written`), and in one statement (`exact`).
+-- Acceptance word by word is exact: what is written is accepted and reads as it was (`accepted-written`), and what is read was written (`read-is-written`); two lookups with the same words read alike (`read-alike`), and words are those of one lookup only that is as it reads (`written-once`). The same of bytes (`bytes-accepted`, `bytes-written`), and in one statement (`exact`).
 -- Assumes nothing.
 use mathlib.Core.Path.{_≡_, refl, sym, ap, _∙_}
 use mathlib.Core.Bool.{Bool, true, false, cond, not, _||_, false≢true}
@@ -102,9 +102,12 @@ accepted-written l r = go (l .kind) (r .even) (r .named) (r .fit) (r .up)
     go Single even named fit up = single-accepted (l .flags) (l .glyphs) (l .substitutes) even fit up
     go (Ligature n) even named fit up = ligature-accepted (l .flags) n (l .glyphs) (l .substitutes) named even fit up
 
--- two lookups with the same words read alike: a lookup that is as it reads has its words alone
-pub written-once : (l m : Lookup) → Readable l → Readable m → wordsOf l ≡ wordsOf m → asRead l ≡ asRead m
-written-once l m r q e = same-fine (asRead l) (asRead m) (sym (accepted-written l r) ∙ ap scan e ∙ accepted-written m q)
+-- two lookups with the same words read alike; and so, where each is as it reads, they are one
+pub read-alike : (l m : Lookup) → Readable l → Readable m → wordsOf l ≡ wordsOf m → asRead l ≡ asRead m
+read-alike l m r q e = same-fine (asRead l) (asRead m) (sym (accepted-written l r) ∙ ap scan e ∙ accepted-written m q)
+
+pub written-once : (ws : List ℕ) (l m : Lookup) → IsWritten ws l → IsWritten ws m → l ≡ m
+written-once ws l m w v = sym (w .same) ∙ read-alike l m (w .readable) (v .readable) (sym (w .made) ∙ v .made) ∙ v .same
 
 -- ---- what is read was written
 module _ (ws : List ℕ) (l : Lookup) (fit : fits ws ≡ true) where

@@ -1,5 +1,5 @@
--- Rules, their sets and their columns: rules that begin alike (`Alike`, `Led`); the rules of their sets are the rules (`flatten-sets`), and rules put together from sets whose first glyphs rise fall into these sets (`sets-flatten`); first glyphs do not fall exactly when those of the sets rise (`leaders-rise`, `firsts-rise`);
--- rules are what their columns hold (`rules-flat`), and columns are those of the rules that they hold (`flat-rules`, `ligatures-rules`).
+-- Rules, their sets and their columns: rules that begin alike (`Alike`, `leader-alike`, `Led`), as those of a set do (`led-sets`); the rules of their sets are the rules (`flatten-sets`), and rules put together from sets whose first glyphs rise fall into these sets (`sets-flatten`); first glyphs do not fall exactly when those of the sets rise (`leaders-rise`, `firsts-rise`);
+-- rules of sets of n components are of n (`wide-flatten`), and their columns belong together (`length-flat`); rules are what their columns hold (`rules-flat`), and columns are those of the rules that they hold (`flat-rules`, `ligatures-rules`).
 -- Assumes nothing.
 use mathlib.Core.Path.{_≡_, refl, sym, ap, _∙_}
 use mathlib.Core.Bool.{Bool, true, false, cond, _&&_}

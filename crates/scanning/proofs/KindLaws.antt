@@ -1,7 +1,6 @@
 -- A lookup is read as of one kind: of two scans of the same words (`further-second`, `further-back`); the words of a ligature lookup say its component number (`componentsAt`, `components-some`, `components-none`), so they are no single lookup's (`ligature-no-single`) and no other component number's (`ligature-one-number`).
 -- Assumes nothing.
 use mathlib.Core.Path.{_≡_, refl, sym, ap, _∙_}
-use mathlib.Core.Bool.{not}
 use mathlib.Core.Logic.{_⊎_, inl, inr}
 use mathlib.Core.List.{List, [], _∷_, _++_, map, append-assoc}
 use Prim.Native.Nat.{ℕ, suc, _+_, _*_, _<_}
@@ -20,9 +19,9 @@ use Rattle.scanning.proofs.LigatureLaws.{ligature-back}
 
 -- ---- of two scans
 pub further-second : (a b : Scan) (l : Lookup) → ((m : Lookup) → a ≡ fine m → ⊥) → b ≡ fine l → further a b ≡ fine l
-further-second (fine m) b l not e = absurd (not m refl)
-further-second (wrong n) b l not e = rw e
-further-second short b l not e = rw e
+further-second (fine m) b l none e = absurd (none m refl)
+further-second (wrong n) b l none e = rw e
+further-second short b l none e = rw e
 
 pub further-back : (a b : Scan) (l : Lookup) → further a b ≡ fine l → (a ≡ fine l) ⊎ (b ≡ fine l)
 further-back (fine m) b l e = inl e

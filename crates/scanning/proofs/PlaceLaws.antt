@@ -1,4 +1,4 @@
--- Where the sets of a ligature lookup begin, and the sets: a scan takes exactly the offsets that leave room for sets (`spaced`, `starts-takes`) and exactly the sets that begin there (`Sound`, `Placed`, `grouping`, `settled-grouping`, `grouping-takes`).
+-- Where the sets of a ligature lookup begin, and the sets: a scan takes exactly the offsets that leave room for sets (`spaced`, `Apart`, `Spaced`, `spaced-apart`, `starts-takes`) and exactly the sets that begin there (`Sound`, `Placed`, `grouping`, `settled-grouping`, `grouping-takes`); as many offsets as blocks (`length-offsets`).
 -- Assumes nothing.
 use mathlib.Core.Path.{_≡_, refl, sym, ap, ap₂, _∙_}
 use mathlib.Core.Bool.{Bool, true, _&&_}

@@ -1,5 +1,5 @@
 -- Limits that the 16 bits of an offset set, over the number n of components: the numbers of document 01 (`limits`); so many glyphs are at most `mostSingle` exactly when the offset behind them fits (`in-most-single`, `most-single-fits`), c rules at most `mostRules n` exactly when the last one's offset does (`in-most-rules`, `most-rules-fit`),
--- s sets of one rule each at most `mostSets n` exactly when the last one's offset does (`in-most-sets`, `most-sets-fit`); a number of bytes is a set's exactly when it is that of a number of rules within the limit (`size-on`, `size-back`, `Sized`).
+-- s sets of one rule each at most `mostSets n` exactly when the last one's offset does (`in-most-sets`, `most-sets-fit`); a number of bytes is a set's exactly when it is that of a number of rules within the limit (`Sized`, `size-back`, `size-on`), and of one number only (`size-once`).
 -- Assumes nothing.
 use mathlib.Core.Path.{_≡_, refl, sym, ap, _∙_}
 use mathlib.Core.Bool.{true, _&&_}

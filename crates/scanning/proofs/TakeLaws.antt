@@ -1,5 +1,5 @@
--- Words taken one by one, in both directions: `Takes` that a scan takes exactly the words of the values that are good, and hands on the value; `Taken` what it took. Scans one behind the other (`two-takes`), words before and behind (`behind-takes`, `ahead-takes`), a value said in another way (`said-takes`);
--- one word (`next-takes`), so many words that each pass a test (`each-takes`), words of any value (`several-takes`), glyphs that rise (`rise-takes`); the end (`ends`, `ended`).
+-- Words taken one by one, in both directions: `Takes` that a scan takes exactly the words of the values that are good, and hands on the value; `Taken` what it took. Scans one behind the other (`two-takes`), words before and behind (`behind-takes`, `ahead-takes`), a value said in another way (`Said`, `said-takes`), the same scan (`same-takes`);
+-- one word (`next-takes`), so many words that each pass a test (`passed`, `each-takes`), words of any value (`several-takes`), glyphs that rise (`rise-takes`); the end (`Ended`, `ends`, `ended`). A scan that is fine says one lookup (`same-fine`), and is neither wrong nor short (`wrong-fine`, `short-fine`).
 -- Assumes nothing.
 use mathlib.Core.Path.{_≡_, refl, sym, ap, _∙_}
 use mathlib.Core.Bool.{Bool, true, false, cond, _&&_}

@@ -1,5 +1,5 @@
 -- Which words are a lookup (document 01, "Reading back"): word by word, each with the values that the words before it leave to it, so that the place of the first word that cannot stand is known. `singleScan`, `ligatureScan` a lookup of each kind, `scan` of any;
--- `fewest`, `mostRules`, `mostSets` the limits that the 16 bits of an offset set; `reading` what bytes say.
+-- `mostSingle`, `mostRules`, `mostSets` the limits that the 16 bits of an offset set; `reading` what bytes say.
 -- Assumes nothing.
 use mathlib.Core.Bool.{Bool, cond, _&&_}
 use mathlib.Core.List.{List, [], _∷_, _++_, map}
@@ -9,7 +9,7 @@ use lib.ListN.{length}
 use Rattle.words.specs.Words.{wordsAt}
 use Rattle.layouts.specs.declared.Kind.the-variants.{Single, Ligature}
 use Rattle.layouts.specs.Tables.{Rule, evenly}
-use Rattle.layouts.specs.Lookups.{Lookup, lookupOf}
+use Rattle.layouts.specs.Lookups.{lookupOf}
 use Rattle.scanning.specs.Scans.{Scan, Rest, fine, wrong, short, next, any, exactly, several, rise, end, further}
 
 -- Lookup: a type, any flags, one subtable, which begins at byte 8

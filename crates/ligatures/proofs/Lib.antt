@@ -1,0 +1,5 @@
+-- The laws of `ligatures`.
+-- Assumes nothing.
+pub mod PlaceLaws
+pub mod ApartLaws
+pub mod TurnLaws

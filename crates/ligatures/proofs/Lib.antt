@@ -3,3 +3,4 @@
 pub mod PlaceLaws
 pub mod ApartLaws
 pub mod TurnLaws
+pub mod SurveyLaws

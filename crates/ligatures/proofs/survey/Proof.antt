@@ -1,47 +1,44 @@
+-- `ligatures::survey` meets its contract: what was found, with the sets to come, is the whole extent.
+-- Assumes nothing.
+use Prim.Native.Nat.{_-_}
+use native.Mathlib.Omega.{arith}
+use borrow.Author.Needs.{needs}
+use lib.ListN.{length}
+use Rattle.ligatures.proofs.SurveyLaws.{Surveyed, survey-begins, survey-next, survey-ends}
 use Rattle.ligatures.proofs.survey.Statement.{statement}
 use Rattle.ligatures.proofs.survey.Tie as tie
-use Rattle.ligatures.proofs.survey.Reads as reads
-use Rattle.ligatures.proofs.survey.Lts as lts
-use Rattle.ligatures.proofs.greater.Reads as greater-reads
-use Rattle.ligatures.proofs.set_end.Reads as set-end-reads
 
 abbrev Inv-loop : tie.InvT-loop
-Inv-loop n components ligatures sets₀ longest₀ last₀ i₀ sets longest last i = ?
+Inv-loop n components ligatures sets₀ longest₀ last₀ i₀ sets longest last i = Surveyed n components ligatures sets longest last i
 
 abbrev μ-loop : tie.MeasureT-loop
-μ-loop n components ligatures sets₀ longest₀ last₀ i₀ sets longest last i = ?
+μ-loop n components ligatures sets₀ longest₀ last₀ i₀ sets longest last i = length ligatures - i
 
--- src/lib.rt:78:5
 loop-holds : tie.Need-loop-holds Inv-loop μ-loop
-loop-holds c = ?
+loop-holds c = survey-begins _ _ _
 
--- src/lib.rt:79:13
 set-end-requires : tie.Need-set-end-requires Inv-loop μ-loop
-set-end-requires c κs = ?
+set-end-requires c κs = (c .before .before .before .before .pre, c .loop-test .taken)
 
--- src/lib.rt:80:9
 add-sets : tie.Need-add-sets Inv-loop μ-loop
-add-sets c = ?
+add-sets c = omega (arith, c .before .before .loop .inv .few, c .before .loop-test .taken)
 
--- src/lib.rt:81:36
 sub-greater : tie.Need-sub-greater Inv-loop μ-loop
-sub-greater c = ?
+sub-greater c = omega (arith, c .set-end .ensures .after)
 
--- src/lib.rt:81:9
 greater-requires : tie.Need-greater-requires Inv-loop μ-loop
-greater-requires c κs = ?
+greater-requires c κs = search needs
 
--- src/lib.rt:78:5
 loop-less : tie.Need-loop-less Inv-loop μ-loop
-loop-less c = ?
+loop-less c = let e = c .before .set-end .ensures in omega (arith, e .after, e .within)
 
--- src/lib.rt:78:5
 loop-again : tie.Need-loop-again Inv-loop μ-loop
-loop-again c = ?
+loop-again c = survey-next (c .before .before .before .loop .inv) (c .before .set-end .ensures) _ (c .greater .ensures)
 
--- src/lib.rt:68:1
 returns : tie.Need-returns Inv-loop μ-loop
-returns c = ?
+returns c =
+    let r = survey-ends (c .before .loop .inv) (c .loop-test .left) in
+    (r .0, (r .1, r .2))
 
 pub survey-spec : {M : Type 1} → statement M
 survey-spec =

@@ -1,7 +1,7 @@
 -- Words to come at three places, each written from the front on (`ToCome`): it begins (`to-come`); a writer of the next words of the first, the second or the third of them brings it on (`first-next`, `second-next`, `third-next`), and has room (`room-first`, `room-second`, `room-third`); with none to come all is written (`all-there`).
 -- Assumes nothing.
 use mathlib.Core.Path.{_≡_, refl, sym, ap, _∙_}
-use mathlib.Core.List.{List, [], _∷_, _++_}
+use mathlib.Core.List.{List, [], _++_}
 use Prim.Native.Nat.{ℕ, _+_, _*_, _≤_}
 use native.Mathlib.Nat.{add-zero}
 use native.Mathlib.Omega.{arith}

@@ -4,3 +4,5 @@ pub mod PlaceLaws
 pub mod ApartLaws
 pub mod TurnLaws
 pub mod SurveyLaws
+pub mod LookupLaws
+pub mod CallLaws

@@ -11,7 +11,7 @@ use lib.ListN.{length, getD, take, drop, drop-of-length-le, length-take, length-
 use lib.Seq.{drop-drop, getD-take, getD-drop, take-nil}
 use Rattle.words.specs.Words.{Wrote}
 use Rattle.words.proofs.WroteLaws.{then, frame, step}
-use Rattle.layouts.specs.Tables.{Rule, first, leader, sets, ruleWords}
+use Rattle.layouts.specs.Tables.{first, leader, sets, ruleWords}
 use Rattle.layouts.specs.Lookups.{rules}
 use Rattle.layouts.proofs.SetLaws.{run, run-more, run-stop, sets-run}
 use Rattle.ligatures.specs.Places.{Shape, ruleAt, part, setsFrom, SetAt}

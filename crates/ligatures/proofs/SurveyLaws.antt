@@ -1,12 +1,11 @@
 -- The walk that finds the extent of the rules: what it found, with what is to come, is the whole (`Surveyed`); it begins (`survey-begins`), a set is next (`survey-next`), none is left (`survey-ends`).
 -- Assumes nothing.
 use mathlib.Core.Path.{_≡_, refl, sym, ap, _∙_}
-use mathlib.Core.List.{List, _∷_}
+use mathlib.Core.List.{List}
 use Prim.Native.Nat.{ℕ, _+_, _-_, _≤_, max}
 use native.Mathlib.Nat.{add-zero}
 use native.Mathlib.Omega.{arith}
 use lib.ListN.{length}
-use Rattle.layouts.specs.Tables.{Rule}
 use Rattle.layouts.specs.Extents.{longest, lastFrom}
 use Rattle.ligatures.specs.Places.{part, setsFrom, SetAt}
 use Rattle.ligatures.proofs.PlaceLaws.{length-part, sets-none}

@@ -1,10 +1,10 @@
 -- The turns of the loops that write a set and all sets, with what is to come at each place. A set: how long it is (`set-long`) and that its count fits (`count-fits`); its count is written (`set-begins`), a rule is next (`RulesToCome`, `RuleNext`, `rule-next`, `rule-turn`), none is left (`set-ends`).
 -- All sets: they begin (`sets-begin`), a set is next (`SetsToCome`, `SetNext`, `set-next`, `set-turn`), none is left (`sets-end`).
 -- Assumes nothing.
-use mathlib.Core.Path.{_≡_, refl, sym, ap, _∙_}
+use mathlib.Core.Path.{_≡_, sym, ap, _∙_}
 use mathlib.Core.Bool.{true}
 use mathlib.Core.List.{List, [], _∷_, _++_, map}
-use Prim.Native.Nat.{ℕ, suc, _+_, _-_, _*_, _<_, _≤_}
+use Prim.Native.Nat.{ℕ, _+_, _-_, _*_, _<_, _≤_}
 use native.Mathlib.Nat.{add-zero}
 use native.Mathlib.Omega.{arith}
 use lib.ListN.{length, getD, length-append, length-map}
@@ -13,12 +13,12 @@ use Rattle.laws.proofs.PasteLaws.{length-pasted, paste-none}
 use Rattle.words.specs.Words.{bytes, Wrote}
 use Rattle.words.proofs.WordLaws.{length-bytes}
 use Rattle.words.proofs.WroteLaws.{frame, paste-words}
-use Rattle.layouts.specs.Tables.{Rule, leader, offsets, joined, ruleWords, setWords}
+use Rattle.layouts.specs.Tables.{leader, offsets, joined, ruleWords, setWords}
 use Rattle.layouts.specs.Lookups.{fits}
 use Rattle.layouts.proofs.FitLaws.{fits-head, fits-parts}
 use Rattle.layouts.proofs.SizeLaws.{length-offsets}
 use Rattle.ligatures.specs.Places.{Shape, ruleAt, part, setsFrom, SetAt}
-use Rattle.ligatures.specs.Sets.{Apart, placed, setOffsets, setLeaders, setBlocks, SetsRoom}
+use Rattle.ligatures.specs.Sets.{placed, setOffsets, setLeaders, setBlocks, SetsRoom}
 use Rattle.ligatures.proofs.PlaceLaws.{length-part, part-next, part-none, leader-at, sets-none}
 use Rattle.ligatures.proofs.ApartLaws.{ToCome, to-come, first-next, second-next, third-next, all-there}
 

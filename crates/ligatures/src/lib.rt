@@ -82,11 +82,22 @@ fn survey(n: usize, components: &[u16], ligatures: &[u16]) -> Extent
         last = i;
         i = e;
     }
-    Extent { sets: sets, longest: longest, last: last }
+    Extent {
+        sets: sets,
+        longest: longest,
+        last: last,
+    }
 }
 
 // Rule `k`: its ligature, the number of its components, those behind the first.
-fn put_rule(n: usize, components: &[u16], ligatures: &[u16], k: usize, area: &mut [u8], at: usize) -> usize
+fn put_rule(
+    n: usize,
+    components: &[u16],
+    ligatures: &[u16],
+    k: usize,
+    area: &mut [u8],
+    at: usize,
+) -> usize
     requires { ⌜ Shape n (now components) (now ligatures) × (k < length (now ligatures)) × (at + 2 * length (ruleWords n (ruleAt n (now components) (now ligatures) k)) ≤ length (now area)) ⌝ }
     ensures { λ r. ⌜ Wrote (now (area .entry)) at (ruleWords n (ruleAt n (now (components .entry)) (now (ligatures .entry)) k)) (now (area .exit)) r [] ⌝ }
 {
@@ -99,7 +110,15 @@ fn put_rule(n: usize, components: &[u16], ligatures: &[u16], k: usize, area: &mu
 }
 
 // The set of the rules from `i` up to `e`: its count, then where each rule begins, and the rule there.
-fn put_set(n: usize, components: &[u16], ligatures: &[u16], i: usize, e: usize, area: &mut [u8], at: usize) -> usize
+fn put_set(
+    n: usize,
+    components: &[u16],
+    ligatures: &[u16],
+    i: usize,
+    e: usize,
+    area: &mut [u8],
+    at: usize,
+) -> usize
     requires { ⌜ Shape n (now components) (now ligatures) × (i ≤ e) × (e ≤ length (now ligatures)) × (fits (setWords n (part n (now components) (now ligatures) i e)) ≡ true) × (at + 2 * length (setWords n (part n (now components) (now ligatures) i e)) ≤ length (now area)) ⌝ }
     ensures { λ r. ⌜ Wrote (now (area .entry)) at (setWords n (part n (now (components .entry)) (now (ligatures .entry)) i e)) (now (area .exit)) r [] ⌝ }
 {
@@ -116,7 +135,15 @@ fn put_set(n: usize, components: &[u16], ligatures: &[u16], i: usize, e: usize, 
 }
 
 // Each set: where it begins, counted from byte 8, its leader, and the set there.
-fn put_sets(n: usize, components: &[u16], ligatures: &[u16], area: &mut [u8], offsets: usize, leaders: usize, at: usize) -> usize
+fn put_sets(
+    n: usize,
+    components: &[u16],
+    ligatures: &[u16],
+    area: &mut [u8],
+    offsets: usize,
+    leaders: usize,
+    at: usize,
+) -> usize
     requires { ⌜ Shape n (now components) (now ligatures) × SetsRoom n (now components) (now ligatures) (now area) 0 offsets leaders at ⌝ }
     ensures end { λ r. ⌜ r ≡ at + 2 * length (setBlocks n (now (components .entry)) (now (ligatures .entry)) 0) ⌝ }
     ensures made { λ _. ⌜ now (area .exit) ≡ placed (now (area .entry)) offsets (setOffsets n (now (components .entry)) (now (ligatures .entry)) 0 at) leaders (setLeaders n (now (components .entry)) (now (ligatures .entry)) 0) at (setBlocks n (now (components .entry)) (now (ligatures .entry)) 0) ⌝ }
@@ -136,7 +163,14 @@ fn put_sets(n: usize, components: &[u16], ligatures: &[u16], area: &mut [u8], of
 }
 
 // The whole lookup, of `sets` sets, which fits.
-fn put_lookup(n: usize, sets: usize, components: &[u16], ligatures: &[u16], flags: u16, area: &mut [u8]) -> usize
+fn put_lookup(
+    n: usize,
+    sets: usize,
+    components: &[u16],
+    ligatures: &[u16],
+    flags: u16,
+    area: &mut [u8],
+) -> usize
     requires { ⌜ Shape n (now components) (now ligatures) × (sets ≡ length (setsFrom n (now components) (now ligatures) 0)) × (fits (ligatureWords flags n (rules n (now components) (now ligatures))) ≡ true) × (2 * length (ligatureWords flags n (rules n (now components) (now ligatures))) ≤ length (now area)) ⌝ }
     ensures { λ r. ⌜ Wrote (now (area .entry)) 0 (ligatureWords flags n (rules n (now (components .entry)) (now (ligatures .entry)))) (now (area .exit)) r [] ⌝ }
 {
@@ -145,11 +179,25 @@ fn put_lookup(n: usize, sets: usize, components: &[u16], ligatures: &[u16], flag
     let offsets = words::put_words(&head, area, 0);
     let cover = [1, count];
     let leaders = words::put_words(&cover, area, offsets + 2 * sets);
-    put_sets(n, components, ligatures, area, offsets, leaders, leaders + 2 * sets)
+    put_sets(
+        n,
+        components,
+        ligatures,
+        area,
+        offsets,
+        leaders,
+        leaders + 2 * sets,
+    )
 }
 
 // Rules of `n` components, at most so many that no sum overflows: 5, 8, or the lookup.
-fn write_rules(n: usize, components: &[u16], ligatures: &[u16], flags: u16, area: &mut [u8]) -> Written
+fn write_rules(
+    n: usize,
+    components: &[u16],
+    ligatures: &[u16],
+    flags: u16,
+    area: &mut [u8],
+) -> Written
     requires { ⌜ Shape n (now components) (now ligatures) × (length (now ligatures) ≤ 16383) ⌝ }
     ensures { λ r. ⌜ Writing (lookupOf flags (Ligature n) (now (components .entry)) (now (ligatures .entry))) (now (area .entry)) r (now (area .exit)) ⌝ }
 {
@@ -168,7 +216,13 @@ fn write_rules(n: usize, components: &[u16], ligatures: &[u16], flags: u16, area
 }
 
 // Writes the lookup of the rules that two columns hold, `n` components and a ligature each, at the start of the area, and says how many bytes it has.
-pub fn serialize_ligature_lookup(n: u8, components: &[u16], ligatures: &[u16], flags: u16, area: &mut [u8]) -> Written
+pub fn serialize_ligature_lookup(
+    n: u8,
+    components: &[u16],
+    ligatures: &[u16],
+    flags: u16,
+    area: &mut [u8],
+) -> Written
     ensures { λ r. ⌜ Writing (lookupOf flags (Ligature n) (now (components .entry)) (now (ligatures .entry))) (now (area .entry)) r (now (area .exit)) ⌝ }
 {
     let width = n as usize;

@@ -65,8 +65,7 @@ put-rule-requires c κs =
     let t = p .before .before in
     let l = t .before in
     let s = l .before .before .before .before .before .before .before .before in
-    let r = rule-next (l .loop .inv) (t .loop-test .taken) (s .pre .2) in
-    (
+    let r = rule-next (l .loop .inv) (t .loop-test .taken) (s .pre .2) in (
       s .pre .0,
       omega (arith, t .loop-test .taken, s .pre .2),
       omega (arith, p .put-u162 .ensures .same, room-third (ruleWords (s .args .n) (ruleAt (s .args .n) (s .args .components .now) (s .args .ligatures .now) (l .loop .k))) _ (r .coming)),

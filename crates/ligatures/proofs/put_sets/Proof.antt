@@ -73,8 +73,7 @@ put-set-requires c κs =
     let l = f .before .before in
     let s = l .before .before .before .before in
     let found = f .set-end .ensures in
-    let x = set-next (l .loop .inv) (s .pre .0) found in
-    (
+    let x = set-next (l .loop .inv) (s .pre .0) found in (
       s .pre .0,
       omega (arith, found .after),
       found .within,

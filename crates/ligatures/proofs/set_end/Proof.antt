@@ -61,8 +61,7 @@ loop-less c = omega arith
 loop-again : tie.Need-loop-again Inv-loop μ-loop
 loop-again c =
     let l = c .before .before .before in
-    let s = l .before .before in
-    (
+    let s = l .before .before in (
       omega arith,
       omega arith,
       omega (arith, l .loop .inv .2, run-on (getD (s .args .components .now) (s .args .i * s .args .n) 0) (l .loop .e) (s .pre .0) (c .before .before .loop-test .taken) (c .if1 .left)),

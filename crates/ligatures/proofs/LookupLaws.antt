@@ -85,7 +85,7 @@ module _ (flags n : ℕ) (cs ls : List ℕ) (s : ℕ) (many : s ≡ length (sets
     head-fits = behind-head flags n (setsFrom n cs ls 0) s many f .0
 
     -- the places are those that the head and the coverage leave
-    module _ {lent : List ℕ} (room : 2 * length (ligature flags n (rules n cs ls)) ≤ length lent) {first-area : List ℕ} {a : ℕ} {area : List ℕ} {b : ℕ} (p : Wrote lent 0 (4 ∷ flags ∷ 1 ∷ 8 ∷ 1 ∷ (6 + 2 * s) ∷ s ∷ []) first-area a []) (q : Wrote first-area (a + 2 * s) (1 ∷ s ∷ []) area b []) where
+    module _ {lent : List ℕ} (room : 2 * length (ligature flags n (rules n cs ls)) ≤ length lent) {first-area : List ℕ} {a : ℕ} {area : List ℕ} {b : ℕ} {cover : ℕ} (p : Wrote lent 0 (4 ∷ flags ∷ 1 ∷ 8 ∷ 1 ∷ cover ∷ s ∷ []) first-area a []) (c : cover ≡ 6 + 2 * s) (q : Wrote first-area (a + 2 * s) (1 ∷ s ∷ []) area b []) where
       at-offsets : a ≡ 14
       at-offsets = omega (arith, p .place)
 
@@ -122,7 +122,7 @@ module _ (flags n : ℕ) (cs ls : List ℕ) (s : ℕ) (many : s ≡ length (sets
           let count : length firsts ≡ s = omega (arith, length-offsets (10 + 4 * s) (map (setWords n) gs), length-map gs (setWords n)) in
           let there : left ≡ pasted (bytes (ligature flags n (rules n cs ls))) 0 lent =
           rw at-sets at m
-          ∙ ap (λ (x : List ℕ). placed x a firsts b (setLeaders n cs ls 0) (b + 2 * s) (setBlocks n cs ls 0)) (ended q ∙ ap (pasted (bytes (1 ∷ s ∷ [])) (a + 2 * s)) (ended p))
+          ∙ ap (λ (x : List ℕ). placed x a firsts b (setLeaders n cs ls 0) (b + 2 * s) (setBlocks n cs ls 0)) (ended q ∙ ap (pasted (bytes (1 ∷ s ∷ [])) (a + 2 * s)) (ended p ∙ ap (λ (k : ℕ). pasted (bytes (4 ∷ flags ∷ 1 ∷ 8 ∷ 1 ∷ k ∷ s ∷ [])) 0 lent) c))
           ∙ around lent (4 ∷ flags ∷ 1 ∷ 8 ∷ 1 ∷ (6 + 2 * s) ∷ s ∷ []) firsts (1 ∷ s ∷ []) (setLeaders n cs ls 0) (setBlocks n cs ls 0) a (a + 2 * s) b (b + 2 * s) (omega (arith, at-offsets)) (omega arith) (omega (arith, at-offsets, at-leaders)) (omega (arith, length-map gs leader)) (omega (arith, at-leaders, lookup-long))
           ∙ ap (λ (x : List ℕ). pasted (bytes x) 0 lent) (sym (lookup-words flags n gs s many))
           in

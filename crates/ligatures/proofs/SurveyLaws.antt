@@ -21,9 +21,9 @@ pub survey-begins : (n : ℕ) (cs ls : List ℕ) → Surveyed n cs ls 0 0 0 0
 survey-begins n cs ls = record { upto = omega arith; few = omega arith; counted = omega arith; compared = omega arith; passed = refl }
 
 module _ {n : ℕ} {cs ls : List ℕ} {count most last i : ℕ} (s : Surveyed n cs ls count most last i) where
-  pub survey-next : {e : ℕ} → SetAt n cs ls i e → (m : ℕ) → m ≡ max most (e - i) → Surveyed n cs ls (count + 1) m i e
+  pub survey-next : {e : ℕ} → SetAt n cs ls i e → (m : ℕ) → m ≡ max most (e - i) → (b : ℕ) → b ≡ i → Surveyed n cs ls (count + 1) m b e
   unfolding longest lastFrom
-  survey-next {e} a m g =
+  survey-next {e} a m g b begins =
       let long : length (part n cs ls i e) ≡ e - i = length-part n cs ls i e (a .within) in
       let sum : i + (e - i) ≡ e = omega (arith, a .after) in
       record {
@@ -31,7 +31,7 @@ module _ {n : ℕ} {cs ls : List ℕ} {count most last i : ℕ} (s : Surveyed n 
         few = omega (arith, a .after, s .few);
         counted = s .counted ∙ rw (a .split) (omega arith);
         compared = s .compared ∙ rw (a .split, long) (omega arith);
-        passed = s .passed ∙ rw (a .split) (ap (λ (k : ℕ). lastFrom i k (setsFrom n cs ls e)) (ap (λ (m : ℕ). i + m) long ∙ sum));
+        passed = s .passed ∙ rw (a .split, begins) (ap (λ (k : ℕ). lastFrom i k (setsFrom n cs ls e)) (ap (λ (m : ℕ). i + m) long ∙ sum));
       }
 
   pub survey-ends :

@@ -55,16 +55,16 @@ module _ {n : ℕ} {cs ls : List ℕ} {i e at : ℕ} {lent : List ℕ} {offsets-
 
   pub rule-turn :
       k < e → e ≤ length ls → {put : List ℕ} {offset′ : ℕ} {area′ : List ℕ} {rule′ : ℕ} → Wrote area offset ((rule - at) ∷ []) put offset′ []
-      → Wrote put rule (ruleWords n (ruleAt n cs ls k)) area′ rule′ [] → RulesToCome n cs ls i e at lent offsets-at rules-at area′ offset′ rule′ (k + 1)
-  rule-turn h w {rule′ = rule′} p q =
+      → Wrote put rule (ruleWords n (ruleAt n cs ls k)) area′ rule′ [] → (k′ : ℕ) → k′ ≡ k + 1 → RulesToCome n cs ls i e at lent offsets-at rules-at area′ offset′ rule′ k′
+  rule-turn h w {rule′ = rule′} p q k′ up =
       let r = rule-next h w in
       let b = t .begins in
       let on : rule - at + 2 * length (ruleWords n (ruleAt n cs ls k)) ≡ rule′ - at = omega (arith, q .place) in
       record {
         upto = omega arith;
         begins = omega (arith, q .place);
-        small = rw on at (r .others);
-        coming = rw on at (third-next (first-next (r .coming) p) q);
+        small = rw up (rw on at (r .others));
+        coming = rw up (rw on at (third-next (first-next (r .coming) p) q));
       }
 
   rules-end : e ≤ k → (rule ≡ rules-at + 2 * length (joined (ruleBlocks n cs ls i e))) × (area ≡ placed lent offsets-at (offsets (rules-at - at) (ruleBlocks n cs ls i e)) rules-at [] rules-at (joined (ruleBlocks n cs ls i e)))

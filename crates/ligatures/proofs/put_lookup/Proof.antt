@@ -59,7 +59,7 @@ put-sets-requires c κs =
     let q = c .before .before .before in
     let p = q .before .before .before .before .before in
     let s = p .before .before .before .before .before .before in
-    (s .pre .0, sets-room (s .args .flags) (s .args .n) (s .args .components .now) (s .args .ligatures .now) (s .args .sets) (s .pre .1) (s .pre .2) (s .pre .3) (p .put-words .ensures) (q .put-words2 .ensures))
+    (s .pre .0, sets-room (s .args .flags) (s .args .n) (s .args .components .now) (s .args .ligatures .now) (s .args .sets) (s .pre .1) (s .pre .2) (s .pre .3) (p .put-words .ensures) (omega arith) (q .put-words2 .ensures))
 
 same-length : tie.Need-same-length
 same-length c =
@@ -67,7 +67,7 @@ same-length c =
     let q = r .before .before .before .before in
     let p = q .before .before .before .before .before in
     let s = p .before .before .before .before .before .before in
-    lookup-written (s .args .flags) (s .args .n) (s .args .components .now) (s .args .ligatures .now) (s .args .sets) (s .pre .1) (s .pre .2) (s .pre .3) (p .put-words .ensures) (q .put-words2 .ensures) (r .put-sets .ensures .0) (r .put-sets .ensures .1) .same
+    lookup-written (s .args .flags) (s .args .n) (s .args .components .now) (s .args .ligatures .now) (s .args .sets) (s .pre .1) (s .pre .2) (s .pre .3) (p .put-words .ensures) (omega arith) (q .put-words2 .ensures) (r .put-sets .ensures .0) (r .put-sets .ensures .1) .same
 
 returns : tie.Need-returns
 returns c =
@@ -75,7 +75,7 @@ returns c =
     let q = r .before .before .before .before in
     let p = q .before .before .before .before .before in
     let s = p .before .before .before .before .before .before in
-    lookup-written (s .args .flags) (s .args .n) (s .args .components .now) (s .args .ligatures .now) (s .args .sets) (s .pre .1) (s .pre .2) (s .pre .3) (p .put-words .ensures) (q .put-words2 .ensures) (r .put-sets .ensures .0) (r .put-sets .ensures .1)
+    lookup-written (s .args .flags) (s .args .n) (s .args .components .now) (s .args .ligatures .now) (s .args .sets) (s .pre .1) (s .pre .2) (s .pre .3) (p .put-words .ensures) (omega arith) (q .put-words2 .ensures) (r .put-sets .ensures .0) (r .put-sets .ensures .1)
 
 pub put-lookup-spec : {M : Type 1} → statement M
 put-lookup-spec =

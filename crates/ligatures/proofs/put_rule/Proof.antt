@@ -61,7 +61,7 @@ part-put-words-start : tie.Need-part-put-words-start
 part-put-words-start c = search needs
 
 part-put-words-end : tie.Need-part-put-words-end
-part-put-words-end c = there (began c)
+part-put-words-end c = omega (arith, there (began c), began c .pre .0 .low)
 
 put-words-requires : tie.Need-put-words-requires
 put-words-requires c κs =

@@ -45,19 +45,19 @@ loop-holds c =
     set-begins (s .args .n) (s .args .components .now) (s .args .ligatures .now) (s .args .i) (s .args .e) (s .pre .2) (s .pre .3) (s .pre .4) (p .put-u16 .ensures) (s .pre .1)
 
 sub-put-u16 : tie.Need-sub-put-u16 Inv-loop μ-loop
-sub-put-u16 c = c .before .loop .inv .begins
+sub-put-u16 c = omega (arith, c .before .loop .inv .begins)
 
 cast-put-u16-2 : tie.Need-cast-put-u16-2 Inv-loop μ-loop
 cast-put-u16-2 c =
     let l = c .before in
     let s = l .before .before .before .before .before .before .before .before in
-    omega (arith, rule-next (l .loop .inv) (c .loop-test .taken) (s .pre .2) .small)
+    omega (arith, rule-next (l .loop .inv) (omega (arith, c .loop-test .taken)) (s .pre .2) .small)
 
 put-u16-requires-2 : tie.Need-put-u16-requires-2 Inv-loop μ-loop
 put-u16-requires-2 c κs =
     let l = c .before .before in
     let s = l .before .before .before .before .before .before .before .before in
-    room-first ((l .loop .rule - s .args .at) ∷ []) _ (rule-next (l .loop .inv) (c .before .loop-test .taken) (s .pre .2) .coming)
+    room-first ((l .loop .rule - s .args .at) ∷ []) _ (rule-next (l .loop .inv) (omega (arith, c .before .loop-test .taken)) (s .pre .2) .coming)
 
 put-rule-requires : tie.Need-put-rule-requires Inv-loop μ-loop
 put-rule-requires c κs =
@@ -65,7 +65,7 @@ put-rule-requires c κs =
     let t = p .before .before in
     let l = t .before in
     let s = l .before .before .before .before .before .before .before .before in
-    let r = rule-next (l .loop .inv) (t .loop-test .taken) (s .pre .2) in (
+    let r = rule-next (l .loop .inv) (omega (arith, t .loop-test .taken)) (s .pre .2) in (
       s .pre .0,
       omega (arith, t .loop-test .taken, s .pre .2),
       omega (arith, p .put-u162 .ensures .same, room-third (ruleWords (s .args .n) (ruleAt (s .args .n) (s .args .components .now) (s .args .ligatures .now) (l .loop .k))) _ (r .coming)),
@@ -84,21 +84,21 @@ loop-again c =
     let t = p .before .before in
     let l = t .before in
     let s = l .before .before .before .before .before .before .before .before in
-    rule-turn (l .loop .inv) (t .loop-test .taken) (s .pre .2) (p .put-u162 .ensures) (q .put-rule .ensures)
+    rule-turn (l .loop .inv) (omega (arith, t .loop-test .taken)) (s .pre .2) (p .put-u162 .ensures) (q .put-rule .ensures) _ (omega arith)
 
 same-length : tie.Need-same-length Inv-loop μ-loop
 same-length c =
     let l = c .before in
     let p = l .before .before .before in
     let s = p .before .before .before .before .before in
-    set-ends (s .args .n) (s .args .components .now) (s .args .ligatures .now) (s .args .i) (s .args .e) (s .pre .2) (s .pre .3) (s .pre .4) (p .put-u16 .ensures) (c .loop-test .left) (l .loop .inv) .same
+    set-ends (s .args .n) (s .args .components .now) (s .args .ligatures .now) (s .args .i) (s .args .e) (s .pre .2) (s .pre .3) (s .pre .4) (p .put-u16 .ensures) (omega (arith, c .loop-test .left)) (l .loop .inv) .same
 
 returns : tie.Need-returns Inv-loop μ-loop
 returns c =
     let l = c .before in
     let p = l .before .before .before in
     let s = p .before .before .before .before .before in
-    set-ends (s .args .n) (s .args .components .now) (s .args .ligatures .now) (s .args .i) (s .args .e) (s .pre .2) (s .pre .3) (s .pre .4) (p .put-u16 .ensures) (c .loop-test .left) (l .loop .inv)
+    set-ends (s .args .n) (s .args .components .now) (s .args .ligatures .now) (s .args .i) (s .args .e) (s .pre .2) (s .pre .3) (s .pre .4) (p .put-u16 .ensures) (omega (arith, c .loop-test .left)) (l .loop .inv)
 
 pub put-set-spec : {M : Type 1} → statement M
 put-set-spec =

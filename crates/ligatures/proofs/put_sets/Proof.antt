@@ -25,7 +25,7 @@ set-end-requires : tie.Need-set-end-requires Inv-loop μ-loop
 set-end-requires c κs = (c .before .before .before .before .before .pre .0, c .loop-test .taken)
 
 sub-put-u16 : tie.Need-sub-put-u16 Inv-loop μ-loop
-sub-put-u16 c = c .before .before .loop .inv .begins
+sub-put-u16 c = omega (arith, c .before .before .loop .inv .begins)
 
 cast-put-u16 : tie.Need-cast-put-u16 Inv-loop μ-loop
 cast-put-u16 c =

@@ -44,10 +44,10 @@ returns c =
       components-fit = λ i. omega (arith, k .before .before .before .shared-slice-known .given i);
       ligatures-fit = λ i. omega (arith, k .before .before .shared-slice-known2 .given i);
     })
-    (s .args .area .now) (c .if3 .taken)
+    (s .args .area .now) (omega (arith, c .if3 .taken))
 
 write-rules-requires : tie.Need-write-rules-requires
-write-rules-requires c κs = (shape (c .before .before), c .before .if3 .left)
+write-rules-requires c κs = (shape (c .before .before), omega (arith, c .before .if3 .left))
 
 same-length : tie.Need-same-length
 same-length c = search needs

@@ -49,7 +49,7 @@ returns c =
     let l = c .before .before .before in
     let s = l .before .before in
     set-found (s .args .i) (l .loop .e) (s .pre .0) (l .loop .inv .0) (l .loop .inv .1)
-    (omega (arith, l .loop .inv .2, run-ends (getD (s .args .components .now) (s .args .i * s .args .n) 0) (l .loop .e) (s .pre .0) (c .before .before .loop-test .taken) (c .if1 .taken)))
+    (omega (arith, l .loop .inv .2, run-ends (getD (s .args .components .now) (s .args .i * s .args .n) 0) (l .loop .e) (s .pre .0) (c .before .before .loop-test .taken) (λ q. omega (arith, q, c .if1 .taken))))
 
 add-e-2 : tie.Need-add-e-2 Inv-loop μ-loop
 add-e-2 c = omega arith
@@ -64,7 +64,7 @@ loop-again c =
     let s = l .before .before in (
       omega arith,
       omega arith,
-      omega (arith, l .loop .inv .2, run-on (getD (s .args .components .now) (s .args .i * s .args .n) 0) (l .loop .e) (s .pre .0) (c .before .before .loop-test .taken) (c .if1 .left)),
+      omega (arith, l .loop .inv .2, run-on (getD (s .args .components .now) (s .args .i * s .args .n) 0) (l .loop .e) (s .pre .0) (c .before .before .loop-test .taken) (omega (arith, c .if1 .left))),
     )
 
 -- no rule is left

@@ -33,7 +33,7 @@ loop-less : tie.Need-loop-less Inv-loop μ-loop
 loop-less c = let e = c .before .set-end .ensures in omega (arith, e .after, e .within)
 
 loop-again : tie.Need-loop-again Inv-loop μ-loop
-loop-again c = survey-next (c .before .before .before .loop .inv) (c .before .set-end .ensures) _ (c .greater .ensures)
+loop-again c = survey-next (c .before .before .before .loop .inv) (c .before .set-end .ensures) _ (c .greater .ensures) _ (omega arith)
 
 returns : tie.Need-returns Inv-loop μ-loop
 returns c =

@@ -44,7 +44,7 @@ allowed : (c : tie.Else3) → let s = began (c .before .before .before .before .
 allowed c =
     let k = c .before .before .before .before .before .before .before in
     let f = k .survey .ensures in
-    not-refused (lent k) (began k .args .area .now) (f .0) (f .1 .0) (f .1 .1) (c .before .before .before .before .if1 .left) (c .before .before .if2 .left) (c .if3 .left)
+    not-refused (lent k) (began k .args .area .now) (f .0) (f .1 .0) (f .1 .1) (omega (arith, c .before .before .before .before .if1 .left)) (omega (arith, c .before .before .if2 .left)) (omega (arith, c .if3 .left))
 
 survey-requires : tie.Need-survey-requires
 survey-requires c κs = c .before .before .before .pre .0
@@ -72,7 +72,7 @@ returns : tie.Need-returns
 returns c =
     let k = c .before .before .before in
     let f = k .survey .ensures in
-    offset-refused (lent k) (began k .args .area .now) (f .0) (f .1 .1) (c .if1 .taken)
+    offset-refused (lent k) (began k .args .area .now) (f .0) (f .1 .1) (omega (arith, c .if1 .taken))
 
 mul-if2 : tie.Need-mul-if2
 mul-if2 c = omega (arith, size-small (c .before .before .before))
@@ -87,7 +87,7 @@ mul-if2-2 c = omega (arith, longest-small (c .before .before .before .before))
 returns-2 : tie.Need-returns-2
 returns-2 c =
     let k = c .before .before .before .before .before in
-    set-refused (lent k) (began k .args .area .now) (k .survey .ensures .1 .0) (c .if2 .taken)
+    set-refused (lent k) (began k .args .area .now) (k .survey .ensures .1 .0) (omega (arith, c .if2 .taken))
 
 mul-if3 : tie.Need-mul-if3
 mul-if3 c = omega (arith, sets-small (c .before .before .before .before .before .before))
@@ -108,7 +108,7 @@ returns-3 : tie.Need-returns-3
 returns-3 c =
     let k = c .before .before .before .before .before .before .before in
     let f = k .survey .ensures in
-    room-refused (lent k) (began k .args .area .now) (f .0) (f .1 .0) (f .1 .1) (c .before .before .before .before .if1 .left) (c .before .before .if2 .left) (c .if3 .taken)
+    room-refused (lent k) (began k .args .area .now) (f .0) (f .1 .0) (f .1 .1) (omega (arith, c .before .before .before .before .if1 .left)) (omega (arith, c .before .before .if2 .left)) (omega (arith, c .if3 .taken))
 
 put-lookup-requires : tie.Need-put-lookup-requires
 put-lookup-requires c κs =

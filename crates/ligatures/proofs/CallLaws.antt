@@ -1,4 +1,4 @@
--- What the call knows at each of its answers. By the number of components: `in-range`, `out-of-range`. Of columns of one shape, lent as numbers of 16 bits (`Lent`): sums that cannot overflow (`product-small`, `extent-small`), each refusal (`many-refused`, `offset-refused`, `set-refused`, `room-refused`), and what is not refused (`not-refused`).
+-- What the call knows where it answers: numbers of components that are known (`low-and-high`); and of columns of one shape, lent as numbers of 16 bits (`Lent`): numbers small enough that no sum overflows (`product-small`, `extent-small`), each refusal (`many-refused`, `offset-refused`, `set-refused`, `room-refused`), what fits (`all-fit`) and what is not refused (`not-refused`).
 -- Assumes nothing.
 use mathlib.Core.Path.{_≡_, refl, ap, _∙_}
 use mathlib.Core.Bool.{Bool, true, false, _||_}

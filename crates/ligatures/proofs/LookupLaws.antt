@@ -1,4 +1,4 @@
--- The whole lookup, as it is written: head and coverage, then offsets, leaders and sets around it. What it is made of (`lookup-words`, `lookup-long`); that its parts fit (`head-fits`); that there is room for them (`head-room`, `cover-room`, `sets-room`); that they make it (`lookup-written`).
+-- The whole lookup, as it is written: head and coverage are there first, then offsets, leaders and sets are placed around the coverage. Its length (`lookup-long`); that the head fits (`head-fits`); that there is room for the sets (`sets-room`); that all of it makes the lookup (`lookup-written`).
 -- Assumes nothing.
 use mathlib.Core.Path.{_≡_, sym, ap, _∙_}
 use mathlib.Core.Bool.{true}
@@ -26,9 +26,9 @@ module _ (lent hs bs cs ds es : List ℕ) (b c d e : ℕ) (at-b : b ≡ 2 * leng
       let long : length front ≡ length lent = length-pasted (bytes hs) 0 lent (omega (arith, length-bytes hs)) in
       let two : List ℕ = bs ++ cs in
       let three : List ℕ = two ++ ds in
-      let l2 = length-append bs cs in
-      let l3 = length-append two ds in
-      let l4 = length-append three es in
+      let long-two = length-append bs cs in
+      let long-three = length-append two ds in
+      let long-all = length-append three es in
       let middle : pasted (bytes bs) b (pasted (bytes cs) c front) ≡ pasted (bytes two) b front =
       paste-before (bytes bs) (bytes cs) front b c (omega (arith, length-bytes bs)) (omega (arith, length-bytes cs)) ∙ ap (λ (x : List ℕ). pasted x b front) (sym (bytes-append bs cs))
       in

@@ -1,5 +1,5 @@
 -- The turns of the loops that write a set and all sets, with what is to come at each place. A set: how long it is (`set-long`) and that its count fits (`count-fits`); its count is written (`set-begins`), a rule is next (`RulesToCome`, `RuleNext`, `rule-next`, `rule-turn`), none is left (`set-ends`).
--- All sets: they begin (`sets-begin`), a set is next (`SetsToCome`, `SetNext`, `set-next`, `set-turn`), none is left (`sets-end`).
+-- All sets: they begin (`sets-begin`), a set is next (`SetsToCome`, `SetNext`, `set-next`, `set-turn`), none is left (`sets-end`); the area keeps its length (`sets-same`).
 -- Assumes nothing.
 use mathlib.Core.Path.{_≡_, sym, ap, _∙_}
 use mathlib.Core.Bool.{true}

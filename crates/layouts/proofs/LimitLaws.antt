@@ -1,4 +1,4 @@
--- When a lookup fits, all its numbers being of 16 bits: a single one by the number of its glyphs (`single-fits`); a ligature lookup by its last set's offset and its longest set (`ligature-fits`, `ligature-within`, `offset-over`, `set-over`), and never with over 16,383 rules (`too-many`).
+-- When a lookup fits, all its numbers being of 16 bits: a single one by the number of its glyphs (`single-fits`); a ligature lookup by its last set's offset and its longest set (`ligature-fits`, `ligature-within`, `offset-over`, `set-over`), and never with over 16,383 rules (`too-many`). No number that decides is above the number of rules (`sets-few`, `longest-few`, `last-few`).
 -- Its rules are to have n components, and numbers of 16 bits (`Regular`), as those of lent columns do (`regular-rules`).
 -- Assumes nothing.
 use mathlib.Core.Path.{_≡_, refl, sym, ap, _∙_}
@@ -207,6 +207,36 @@ module _ (n : ℕ) (low : 0 < n) where
               let h = ltb-true (8 + 6 * c + x) 65536 e in
               rw (lt-ltb (6 + 2 * c) 65536 (omega arith), lt-ltb c 65536 (omega arith))
           by false e = rw (and-false (ltb c 65536), and-false (ltb (6 + 2 * c) 65536))
+
+-- no more sets than rules, nor more rules in one of them, and the last begins with one of them
+pub sets-few : (rs : List Rule) → length (sets rs) ≤ length rs
+unfolding sets
+sets-few [] = omega arith
+sets-few (r ∷ rs) = go (sets rs) (sets-few rs)
+  where
+    go : (gs : List (List Rule)) → length gs ≤ length rs → length (onto r gs) ≤ suc (length rs)
+    go [] h = omega arith
+    go (g ∷ gs) h = same (eqb (first r) (leader g))
+      where
+        same : (t : Bool) → length (cond t ((r ∷ g) ∷ gs) ((r ∷ []) ∷ g ∷ gs)) ≤ suc (length rs)
+        same true = omega arith
+        same false = omega arith
+
+pub longest-few : (rs : List Rule) → longest (sets rs) ≤ length rs
+unfolding longest
+longest-few rs = omega (arith, go (sets rs), rules-in-sets rs)
+  where
+    go : (gs : List (List Rule)) → longest gs ≤ rulesIn gs
+    go [] = omega arith
+    go (g ∷ gs) = omega (arith, go gs)
+
+pub last-few : (rs : List Rule) → lastFrom 0 0 (sets rs) ≤ length rs
+unfolding lastFrom
+last-few rs = omega (arith, go 0 0 (sets rs) (omega arith), rules-in-sets rs)
+  where
+    go : (before i : ℕ) (gs : List (List Rule)) → before ≤ i → lastFrom before i gs ≤ i + rulesIn gs
+    go before i [] h = omega arith
+    go before i (g ∷ gs) h = omega (arith, go i (i + length g) gs (omega arith))
 
 -- the last set's offset decides, and the last rule's offset in the longest set
 module _ (flags n : ℕ) (rs : List Rule) (low : 0 < n) (f : flags < 65536) (g : Regular n rs) where

@@ -5,12 +5,10 @@ use mathlib.Core.Path.{_≡_, refl, sym, ap, ap₂, _∙_}
 use mathlib.Core.Bool.{true, false, not}
 use mathlib.Core.List.{List, [], _∷_, _++_}
 use Prim.Native.Nat.{ℕ, _*_, _<_, _≤_}
-use native.Mathlib.Nat.{zero-add}
 use native.Mathlib.Omega.{arith}
 use borrow.Author.Tests.{not-false, eqb-true, ltb-false, eq-eqb, ne-eqb, lt-ltb, le-ltb}
 use lib.Dec.{eqb, ltb}
 use lib.ListN.{length, drop}
-use Rattle.laws.specs.Lists.{pasted}
 use Rattle.laws.specs.Rows.{Given}
 use Rattle.laws.proofs.RowLaws.{first-none}
 use Rattle.refusals.specs.declared.Refusal.{Refusal}
@@ -19,7 +17,7 @@ use Rattle.refusals.specs.Numbers.{numberOf}
 use Rattle.refusals.proofs.VerdictLaws.{same-said, refused-number}
 use Rattle.refusals.proofs.LeftLaws.{alike, left-refused, left-done}
 use Rattle.words.specs.Words.{bytes, Wrote}
-use Rattle.words.proofs.WordLaws.{length-bytes}
+use Rattle.words.proofs.WordLaws.{length-bytes, paste-front}
 use Rattle.words.proofs.WroteLaws.{ended}
 use Rattle.layouts.specs.declared.Written.{Written}
 use Rattle.layouts.specs.declared.Written.the-variants.{Bytes}
@@ -99,10 +97,9 @@ module _ (l : Lookup) (area : List ℕ) where
 
   -- the words written from the start of the area are at its start, and the area past them is untouched
   pub written-all : Allowed l (length area) → {left : List ℕ} {n : ℕ} → Wrote area 0 (wordsOf l) left n [] → Writing l area (Bytes n) left
-  unfolding pasted
   written-all a {left} {n} w =
       let long : n ≡ 2 * length (wordsOf l) = omega (arith, w .place) in
       let there : left ≡ bytes (wordsOf l) ++ drop (2 * length (wordsOf l)) area =
-      ended w ∙ ap (λ (k : ℕ). bytes (wordsOf l) ++ drop k area) (zero-add (length (bytes (wordsOf l))) ∙ length-bytes (wordsOf l))
+      ended w ∙ paste-front (bytes (wordsOf l)) area ∙ ap (λ (k : ℕ). bytes (wordsOf l) ++ drop k area) (length-bytes (wordsOf l))
       in
       left-done (writeRefusal l (length area)) (outcome 0 area) _ 0 _ (sym (none-given l (length area) a)) refl (ap₂ outcome long there)

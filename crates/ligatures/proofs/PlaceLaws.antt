@@ -1,5 +1,5 @@
--- The rules that two columns hold, by their places: their number (`length-rules`), the next one (`rules-next`, `part-next`, `part-none`), how many a part has (`length-part`), where a rule's components stand (`inside`, `first-at`, `rule-words`);
--- the walk to the end of a set (`runFrom`, `run-on`, `run-ends`, `run-over`, `set-found`); what begins a part that is a set (`leader-at`), and that no set is left (`sets-none`); a rule written (`rule-written`).
+-- The rules that two columns hold, by their places: their number (`length-rules`), the next one (`rules-next`, `part-next`, `part-none`), how many a part has (`length-part`), where a rule's components stand (`inside`, `first-at`, `rule-words`, `others-one`, `others-two`);
+-- the walk to the end of a set (`runFrom`, `run-on`, `run-ends`, `run-over`, `set-found`); what begins a part that is a set (`leader-at`), and that no set is left (`sets-none`); a rule written (`one-written`, `two-written`, `rule-written`).
 -- Assumes nothing.
 use mathlib.Core.Path.{_≡_, refl, sym, ap, _∙_}
 use mathlib.Core.List.{List, [], _∷_}
@@ -8,7 +8,7 @@ use native.Mathlib.Nat.{mul-le-mul-right, zero-mul, add-zero}
 use native.Mathlib.Numerals.{add-one}
 use native.Mathlib.Omega.{arith}
 use lib.ListN.{length, getD, take, drop, drop-of-length-le, length-take, length-drop}
-use lib.Seq.{drop-drop, getD-take, getD-drop, take-nil}
+use lib.Seq.{drop-drop, drop-cons, getD-take, getD-drop, take-nil}
 use Rattle.words.specs.Words.{Wrote}
 use Rattle.words.proofs.WroteLaws.{then, frame, step}
 use Rattle.layouts.specs.Tables.{first, leader, sets, ruleWords}
@@ -62,14 +62,31 @@ behind-first (suc n) (x ∷ l) = ap (λ (k : ℕ). take k l) (less n)
     less : (n : ℕ) → n ≡ suc n - 1
     less n = omega arith
 
--- those behind the first are the column's part from the second place up to the next rule
-pub rule-words : (n : ℕ) (cs ls : List ℕ) (k : ℕ) → ruleWords n (ruleAt n cs ls k) ≡ getD ls k 0 ∷ n ∷ take (k * n + n - (k * n + 1)) (drop (k * n + 1) cs)
+-- those behind the first are the column's part from the second place on
+pub rule-words : (n : ℕ) (cs ls : List ℕ) (k : ℕ) → ruleWords n (ruleAt n cs ls k) ≡ getD ls k 0 ∷ n ∷ take (n - 1) (drop (k * n + 1) cs)
 unfolding ruleWords
-rule-words n cs ls k =
-    rw (behind-first n (drop (k * n) cs), drop-drop) (ap (λ (m : ℕ). getD ls k 0 ∷ n ∷ take m (drop (k * n + 1) cs)) (same n (k * n)))
-  where
-    same : (n a : ℕ) → n - 1 ≡ a + n - (a + 1)
-    same n a = omega arith
+rule-words n cs ls k = rw (behind-first n (drop (k * n) cs), drop-drop)
+
+-- one or two of them
+module _ (n : ℕ) (cs : List ℕ) (i : ℕ) (h : i + n ≤ length cs) where
+  pub others-one : n ≡ 2 → take (n - 1) (drop (i + 1) cs) ≡ getD cs (i + 1) 0 ∷ []
+  others-one e = rw (e, drop-cons cs (i + 1) 0 (omega (arith, e)))
+
+  pub others-two : n ≡ 3 → take (n - 1) (drop (i + 1) cs) ≡ getD cs (i + 1) 0 ∷ getD cs (i + 2) 0 ∷ []
+  others-two e =
+      let on : suc (i + 1) ≡ i + 2 = omega arith in
+      rw e
+      (ap (take 2)
+      (drop-cons cs (i + 1) 0 (omega (arith, e)) ∙ ap (λ (m : ℕ). getD cs (i + 1) 0 ∷ drop m cs) on ∙ ap (λ (l : List ℕ). getD cs (i + 1) 0 ∷ l) (drop-cons cs (i + 2) 0 (omega (arith, e)))))
+
+  -- written by one call, or by two
+  pub one-written : n ≡ 2 → {d t : List ℕ} {at a : ℕ} → Wrote d at (getD cs (i + 1) 0 ∷ []) t a [] → Wrote d at (take (n - 1) (drop (i + 1) cs)) t a []
+  one-written e p = rw (others-one e) p
+
+  pub two-written :
+      n ≡ 3 → {d t u : List ℕ} {at a b : ℕ} → at + 2 * (n - 1) ≤ length d → Wrote d at (getD cs (i + 1) 0 ∷ []) t a [] → Wrote t a (getD cs (i + 2) 0 ∷ []) u b []
+      → Wrote d at (take (n - 1) (drop (i + 1) cs)) u b []
+  two-written e room p q = rw (others-two e) (then (frame (getD cs (i + 2) 0 ∷ []) (omega (arith, room, e)) p) q)
 
 -- ---- the walk to the end of a set
 -- how many rules from e on begin with f
@@ -112,8 +129,8 @@ pub rule-written :
     → at + 2 * length (ruleWords n (ruleAt n cs ls k)) ≤ length d
     → Wrote d at (getD ls k 0 ∷ []) first-area a []
     → Wrote first-area a (n ∷ []) second-area b []
-    → Wrote second-area b (take (k * n + n - (k * n + 1)) (drop (k * n + 1) cs)) third-area e []
+    → Wrote second-area b (take (n - 1) (drop (k * n + 1) cs)) third-area e []
     → Wrote d at (ruleWords n (ruleAt n cs ls k)) third-area e []
 rule-written n cs ls k room p q r =
-    let others : List ℕ = take (k * n + n - (k * n + 1)) (drop (k * n + 1) cs) in
+    let others : List ℕ = take (n - 1) (drop (k * n + 1) cs) in
     rw (rule-words n cs ls k) (then (step others (frame (n ∷ others) (rw (rule-words n cs ls k) at room) p) q) r)

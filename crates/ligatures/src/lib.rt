@@ -2,9 +2,9 @@
 ghost use mathlib.Core.Path.{_≡_};
 ghost use mathlib.Core.Bool.{true};
 ghost use mathlib.Core.List.{[]};
-ghost use Prim.Native.Nat.{_+_, _*_, _<_, _≤_, max};
+ghost use Prim.Native.Nat.{_+_, _-_, _*_, _<_, _≤_, max};
 ghost use lib.Dec.{eqb};
-ghost use lib.ListN.{length};
+ghost use lib.ListN.{length, take, drop};
 ghost use Rattle.words.specs.Words.{Wrote};
 ghost use Rattle.layouts.specs.declared.Kind.the-variants.{Ligature};
 ghost use Rattle.layouts.specs.Tables.{ruleWords, setWords};
@@ -89,6 +89,18 @@ fn survey(n: usize, components: &[u16], ligatures: &[u16]) -> Extent
     }
 }
 
+// The one or two components behind the first, which is at place `i`: two stores cost less than a loop.
+fn put_others(n: usize, components: &[u16], i: usize, area: &mut [u8], at: usize) -> usize
+    requires { ⌜ (2 ≤ n) × (n ≤ 3) × (i + n ≤ length (now components)) × (at + 2 * (n - 1) ≤ length (now area)) ⌝ }
+    ensures { λ r. ⌜ Wrote (now (area .entry)) at (take (n - 1) (drop (i + 1) (now (components .entry)))) (now (area .exit)) r [] ⌝ }
+{
+    let a = words::put_u16(components[i + 1], area, at);
+    if n == 2 {
+        return a;
+    }
+    words::put_u16(components[i + 2], area, a)
+}
+
 // Rule `k`: its ligature, the number of its components, those behind the first.
 fn put_rule(
     n: usize,
@@ -103,10 +115,7 @@ fn put_rule(
 {
     let a = words::put_u16(ligatures[k], area, at);
     let b = words::put_u16(n as u16, area, a);
-    let i = k * n;
-    let from = i + 1;
-    let to = i + n;
-    words::put_words(&components[from..to], area, b)
+    put_others(n, components, k * n, area, b)
 }
 
 // The set of the rules from `i` up to `e`: its count, then where each rule begins, and the rule there.

@@ -5,19 +5,18 @@ use mathlib.Core.Bool.{Bool, true, false, _||_}
 use mathlib.Core.List.{List, [], _∷_, _++_}
 use mathlib.Core.Logic.{_⊎_, inl, inr, ⊎-elim}
 use Prim.Native.Nat.{ℕ, suc, _+_, _-_, _*_, _/_, _≤_, _<_}
-use native.Mathlib.Nat.{zero-add, le-div-iff-mul-le}
+use native.Mathlib.Nat.{le-div-iff-mul-le}
 use native.Mathlib.Omega.{arith}
 use borrow.Author.Tests.{ltb-true, ltb-false}
 use lib.Dec.{ltb}
 use lib.ListN.{length, drop, length-map}
-use Rattle.laws.specs.Lists.{pasted}
 use Rattle.refusals.specs.Left.{After}
 use Rattle.refusals.specs.declared.Refusal.the-variants.{NoLookup, NoRoom}
 use Rattle.layouts.specs.declared.Kind.{Kind}
 use Rattle.layouts.specs.declared.Kind.the-variants.{Single, Ligature}
 use Rattle.layouts.specs.Lookups.{Lookup}
 use Rattle.words.specs.Words.{wordAt, wordsAt}
-use Rattle.words.proofs.WordLaws.{length-words}
+use Rattle.words.proofs.WordLaws.{length-words, paste-front}
 use Rattle.scanning.specs.Scans.{Scan, fine, wrong, short}
 use Rattle.scanning.specs.Grammar.{flat, ligaturesOf, reading}
 use Rattle.grouping.specs.Grouped.{leadsAt}
@@ -103,11 +102,6 @@ module _ (b g s : List ℕ) (h : Held Single b) (n : ℕ) (count : n ≡ (length
       (rw (f, p, q, n-is, length-words b (18 + 2 * countAt b) (countAt b), length-words b 14 (countAt b)))
 
 -- ---- a ligature lookup
--- a part written over from the start
-paste-front : (P l : List ℕ) → pasted P 0 l ≡ P ++ drop (length P) l
-unfolding pasted
-paste-front P l = ap (λ (k : ℕ). P ++ drop k l) (zero-add (length P))
-
 module _ (m : ℕ) (b g s : List ℕ) (h : Held (Ligature m) b) (low : 2 ≤ m) (sets : ℕ) (o : sets ≡ countAt b) where
   -- where the sets end
   pub ligature-place : 18 + 6 * sets + length (rulesIn m b) * (4 + 2 * m) ≤ length b

@@ -39,7 +39,7 @@ def columns_of(body):
 
 
 def numbers(draw, width, count):
-    return list(draw.randbytes(count)) if width == 1 else list(struct.unpack(f">{count}I", draw.randbytes(4 * count)))
+    return list(struct.unpack(f">{count}{'BH.I'[width - 1]}", draw.randbytes(width * count)))
 
 
 def put(call, name, at, value):
@@ -96,7 +96,8 @@ def wrong_forms(call, inputs, outputs, answer, spoilt):
     right = answer(call)
     yield from (case(call | change, inputs, outputs, right) for change in spoilt(call))
     for name in inputs:
-        yield case(call | {name: [0] * len(call[name])}, inputs | {name: 2}, outputs, right)
+        other_width = 4 if inputs[name] == 2 else 2
+        yield case(call | {name: [0] * len(call[name])}, inputs | {name: other_width}, outputs, right)
         yield case(call, {other: width for other, width in inputs.items() if other != name}, outputs, right)
     for name in outputs:
         yield case(call, inputs, {other: width for other, width in outputs.items() if other != name}, [c for o, c in zip(outputs, right) if o != name])

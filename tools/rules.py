@@ -1,7 +1,10 @@
 """Document 01's rules as the models of tools/ have them, written apart from the code: types, the resolving of X, joining by neighbours, the
-actions of selectors, masks, what replacing a letter alters, the reordering of marks, recording for stretching, and stretching."""
+actions of selectors, masks, what replacing a letter alters, the reordering of marks, recording for stretching, stretching, and lookups, written and
+read back."""
 
 import collections
+import itertools
+import struct
 
 U, L, R, D, ALAPH, DALATH_RISH, T, X = range(8)
 ISOL, FINA, FIN2, FIN3, MEDI, MED2, INIT, NONE, FIXED, REPEATING = range(10)
@@ -13,6 +16,9 @@ SELECTORS = (0x180B, 0x180C, 0x180D, 0x180F)
 MODIFIERS = (0x654, 0x655, 0x658, 0x6DC, 0x6E3, 0x6E7, 0x6E8, 0x8CA, 0x8CB, 0x8CD, 0x8CE, 0x8CF, 0x8D3, 0x8F3)  # the source's list of 14 codes
 STRETCHED_LIMIT = 16384
 LINE_LIMIT, CONTEXT_LIMIT, LAST_TYPE, LAST_CATEGORY, LAST_ACTION = 4096, 64, 7, 29, 9
+LAST_WORD = 65535  # of the "big-endian 16-bit numbers" of a lookup
+SINGLE, LIGATURE = 1, 4  # OpenType's types of lookups
+COMPONENTS = (2, 3)  # "component number other than 2 or 3"
 
 
 def resolved(t, category):
@@ -216,3 +222,116 @@ def stretched(line, rtl):
         done += placed(run, work[run.start : run.end], rtl)
         at = run.end
     return work_of(done + work[at:], rtl)
+
+
+def single_words(flags, glyphs, substitutes):
+    """ "Single: 1, flags, 1, 8; 2, 6 + 2n, n, substitutes; 1, n, glyphs" """
+    n = len(glyphs)
+    return [SINGLE, flags, 1, 8, 2, 6 + 2 * n, n, *substitutes, 1, n, *glyphs]
+
+
+def rules_of(n, components, ligatures):
+    """The rules of a flat list: the components of each, and its ligature."""
+    return [(components[n * at : n * (at + 1)], ligature) for at, ligature in enumerate(ligatures)]
+
+
+def starts(blocks, first):
+    """Where blocks of words begin, in bytes, if the first begins at `first` and each directly behind the one before."""
+    return list(itertools.accumulate((2 * len(block) for block in blocks), initial=first))[: len(blocks)]
+
+
+def flat(blocks):
+    return [word for block in blocks for word in block]
+
+
+def set_words(n, rules):
+    """ "each set's count, offsets and rules (ligature, N, the other components)"; offsets count from the set."""
+    blocks = [[ligature, n, *components[1:]] for components, ligature in rules]
+    return [len(blocks), *starts(blocks, 2 + 2 * len(blocks)), *flat(blocks)]
+
+
+def ligature_words(flags, n, components, ligatures):
+    """ "Ligature, with N components: 4, flags, 1, 8; 1, coverage offset, s, set offsets; 1, s, first components; then each set's ..". "A set starts
+    where the first component differs from the rule before. Set offsets count from byte 8." """
+    sets = [(first, list(rules)) for first, rules in itertools.groupby(rules_of(n, components, ligatures), lambda rule: rule[0][0])]
+    s, blocks = len(sets), [set_words(n, rules) for _, rules in sets]
+    coverage = [1, s, *(first for first, _ in sets)]
+    return [LIGATURE, flags, 1, 8, 1, 6 + 2 * s, s, *starts(blocks, 6 + 2 * s + 2 * len(coverage)), *coverage, *flat(blocks)]
+
+
+def bytes_of(words):
+    """The bytes of words, of which each has to be one of 16 bits."""
+    return struct.pack(f">{len(words)}H", *words)
+
+
+Lookup = collections.namedtuple("Lookup", "kind n flags glyphs substitutes")  # n: 0 unless it is a ligature lookup; a ligature lookup's glyphs are flat
+
+
+def words_of(lookup):
+    if lookup.kind == SINGLE:
+        return single_words(lookup.flags, lookup.glyphs, lookup.substitutes)
+    return ligature_words(lookup.flags, lookup.n, lookup.glyphs, lookup.substitutes)
+
+
+class NoLookup(Exception):
+    pass
+
+
+class Tables:
+    """A reader of OpenType's tables that goes wherever offsets lead. What is no word of the bytes, it does not read."""
+
+    def __init__(self, data):
+        self.data = data
+
+    def words(self, at, count):
+        if at + 2 * count > len(self.data):
+            raise NoLookup
+        return list(struct.unpack_from(f">{count}H", self.data, at))
+
+    def counted(self, at):
+        """A count, and as many words behind it."""
+        return self.words(at + 2, *self.words(at, 1))
+
+    def covered(self, at):
+        """The glyphs of a CoverageFormat1."""
+        return self.counted(at + 2)
+
+    def rules(self, at):
+        """The rules of a LigatureSubstFormat1 at a place. As in OpenType, a set's first glyph is that of the coverage at the set's place."""
+        coverage = self.covered(at + self.words(at + 2, 1)[0])
+        sets = [at + offset for offset in self.counted(at + 4)]
+        if len(sets) != len(coverage):
+            raise NoLookup
+        rules = []
+        for first, base in zip(coverage, sets):
+            for offset in self.counted(base):
+                ligature, n = self.words(base + offset, 2)
+                if n not in COMPONENTS or len(rules) == len(self.data):  # a rule has bytes of its own, so there are never so many
+                    raise NoLookup
+                rules.append(([first, *self.words(base + offset + 4, n - 1)], ligature))
+        return rules
+
+    def lookup(self):
+        kind, flags, _, at = self.words(0, 4)
+        if kind == SINGLE:
+            return Lookup(SINGLE, 0, flags, self.covered(at + self.words(at + 2, 1)[0]), self.counted(at + 4))
+        if kind != LIGATURE:
+            raise NoLookup
+        rules = self.rules(at)
+        n = len(rules[0][0]) if rules else 2  # "An empty ligature list has the same bytes for both component numbers and reads with 2."
+        if any(len(components) != n for components, _ in rules):
+            raise NoLookup
+        return Lookup(LIGATURE, n, flags, flat(components for components, _ in rules), [ligature for _, ligature in rules])
+
+
+def read(data):
+    """The lookup that bytes are; none "exactly when they are" not "what the writer gives for some list whose first glyphs do not fall": what reading
+    finds is written once more, and has to give these bytes."""
+    try:
+        lookup = Tables(data).lookup()
+    except NoLookup:
+        return None
+    firsts = lookup.glyphs[:: lookup.n or 1]
+    words = words_of(lookup)
+    whole = len(lookup.glyphs) == len(lookup.substitutes) * (lookup.n or 1) and max(words) <= LAST_WORD and bytes_of(words) == bytes(data)
+    return lookup if whole and all(x <= y for x, y in zip(firsts, firsts[1:])) else None

@@ -6,7 +6,7 @@ ghost use lib.ListN.{getD};
 ghost use mir.Syntax.{w32};
 ghost use mir.Val.{ofZ};
 ghost use Rattle.cases.specs.Comparing.{Compare, comparedAt};
-ghost use Rattle.cases.specs.Singles.{flag};
+ghost use Rattle.cases.specs.Singles.{flag, narrowed};
 
 // The column at the cursor is what `got` has, in number and in each element.
 pub fn same_u8(body: &[u8], at: &mut usize, got: &[u8]) -> bool
@@ -111,4 +111,14 @@ pub fn first_u32(column: &[u32]) -> u32
         return 0;
     }
     column[0]
+}
+
+// A place or a length as a case has it, in 32 bits: what is past them all becomes the last, which no line and no area has.
+pub fn narrow(x: usize) -> u32
+    ensures { λ r. ⌜ r ≡ narrowed x ⌝ }
+{
+    if x < 4294967295 {
+        return x as u32;
+    }
+    4294967295
 }

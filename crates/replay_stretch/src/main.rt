@@ -13,18 +13,10 @@ fn number(answer: Answer) -> u8 {
     }
 }
 
-// A length as a case has it: one past all of these becomes the last, which no line has.
-fn narrow(x: usize) -> u32 {
-    if x < 4294967295 {
-        return x as u32;
-    }
-    4294967295
-}
-
 // The length of an answer: a refused call has none.
 fn length(answer: Answer) -> u32 {
     match answer {
-        Answer::Stretched(n) => narrow(n),
+        Answer::Stretched(n) => cases::narrow(n),
         Answer::Refused(_) => 0,
     }
 }

@@ -1,4 +1,4 @@
--- The parts of which lookups are made, by their next word: certain words (`these-short`, `these-wrong`, `these-more`), several of any value (`several-short`, `several-taken`), glyphs that rise (`rise-short`, `rise-wrong`, `rise-more`).
+-- The parts of which lookups are made, by their next word: certain words (`these-short`, `these-wrong`, `these-more`, `these-none`), several of any value (`several-short`, `several-taken`), glyphs that rise (`scaled`, `next-sum`, `rise-test`, `rise-short`, `rise-wrong`, `rise-more`, `rise-none`).
 -- Assumes nothing.
 use mathlib.Core.Path.{_≡_, refl, sym, ap, _∙_}
 use mathlib.Core.Bool.{Bool, true, false, _&&_, _||_}
@@ -63,13 +63,18 @@ several-short (suc n) value {end} b p l h = go (ltb (length b) (p + 2)) refl (λ
 pub scaled : (apart left : ℕ) → apart ≤ 1 → apart * left ≤ left
 scaled apart left h = omega (arith, mul-le-mul-right left h)
 
--- the test of a glyph, by what it fails
-pub rise-test : (low w x : ℕ) → (ltb w low || ltb 65535 x) ≡ true → (leb low w && ltb x 65536) ≡ false
-rise-test low w x e = go (ltb w low) refl e
+-- what the highest glyph may be, and what those behind it ask for, one glyph on
+pub next-sum : (apart left high : ℕ) → 0 < left → high + apart * left ≡ 65535 → high + apart + apart * (left - 1) ≡ 65535
+next-sum apart zero high h e = absurd (omega arith)
+next-sum apart (suc left) high h e = let less : suc left - 1 ≡ left = omega arith in rw less (omega (arith, e))
+
+-- the test of a glyph, by what it fails; `behind` is what those behind it ask for
+pub rise-test : (low high w behind : ℕ) → high + behind ≡ 65535 → (ltb w low || ltb high w) ≡ true → (leb low w && ltb (w + behind) 65536) ≡ false
+rise-test low high w behind sum e = go (ltb w low) refl e
   where
-    go : (t : Bool) → ltb w low ≡ t → (t || ltb 65535 x) ≡ true → (leb low w && ltb x 65536) ≡ false
+    go : (t : Bool) → ltb w low ≡ t → (t || ltb high w) ≡ true → (leb low w && ltb (w + behind) 65536) ≡ false
     go true f e = rw (lt-leb low w (ltb-true w low f))
-    go false f e = rw (le-ltb x 65536 (omega (arith, ltb-true 65535 x e))) (and-false (leb low w))
+    go false f e = rw (le-ltb (w + behind) 65536 (omega (arith, ltb-true high w e, sum))) (and-false (leb low w))
 
 module _ (apart : ℕ) {end : ℕ} (b : List ℕ) (p : ℕ) where
   pub rise-short : (left low : ℕ) {value : List ℕ} → 0 < left → length b < p + 2 → Took (rise apart left low) value end b p Short

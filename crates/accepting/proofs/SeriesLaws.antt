@@ -1,6 +1,6 @@
--- Parts made of parts, one taken behind the other: the head of a lookup (`headed-stops`, `headed-flags`, `headed-taken`), a coverage (`covered-stops`, `covered-taken`), the count and the offset that it says (`counted-short`, `counted-odd`, `counted-many`, `counted-taken`).
+-- Parts made of parts, one taken behind the other: the head of a lookup (`headed-stops`, `headed-flags`, `headed-taken`), a coverage (`covered-stops`, `covered-taken`), the count and the offset that it says (`counted-short`, `counted-odd`, `counted-many`, `counted-taken`, `counts-known`, `counts-at`).
 -- Assumes nothing.
-use mathlib.Core.Path.{_≡_, refl, sym, ap, _∙_}
+use mathlib.Core.Path.{_≡_, refl, subst}
 use mathlib.Core.Bool.{Bool, true, false, not, _&&_, _||_, false≢true}
 use mathlib.Core.List.{List, [], _∷_}
 use Prim.Native.Nat.{ℕ, _+_, _-_, _*_, _/_, _%_, _≤_, _<_}
@@ -17,7 +17,7 @@ use Rattle.scanning.specs.Grammar.{headed, counted, covered}
 use Rattle.accepting.proofs.Scanned.{the-type}
 use Rattle.accepting.specs.declared.Scanned.{Scanned}
 use Rattle.accepting.specs.declared.Scanned.the-variants.{At, Wrong, Short}
-use Rattle.accepting.specs.Scanned.{Took, these}
+use Rattle.accepting.specs.Scanned.{Took, these, Counts}
 use Rattle.accepting.proofs.TookLaws.{took-else, took-then, took-place, took-these, took-end, one-short, one-wrong, one-right}
 
 -- a scan that did not come to an end
@@ -109,3 +109,12 @@ module _ (most : ℕ) (b : List ℕ) (at : ℕ) where
         one-right counts (λ o k. exactly (countOf o ∷ []) (k (countOf o))) b at h
         (rw (← same, eq-eqb (6 + 2 * countOf o) o (omega (arith, six, even)), le-leb (countOf o) most f)) r
         (rw (← same) (took-end four (took-these (countOf o ∷ []) (countOf o) t)))
+
+-- what is known of a count that was taken
+pub counts-known : (r : Scanned) (most o : ℕ) → (ltb o 6 || not (eqb (o % 2) 0)) ≡ false → (o - 6) / 2 ≤ most → Counts r most o
+counts-known (At p) most o e f = (ltb-false o 6 (neither (ltb o 6) (not (eqb (o % 2) 0)) e .0), f)
+counts-known (Wrong p) most o e f = tt
+counts-known Short most o e f = tt
+
+pub counts-at : (r : Scanned) (p most o : ℕ) → r ≡ At p → Counts r most o → (6 ≤ o) × ((o - 6) / 2 ≤ most)
+counts-at r p most o e t = subst (λ (x : Scanned). Counts x most o) e t

@@ -1,4 +1,4 @@
--- What scanning a part of a lookup in bytes answers: `from` the words from a place on; `after` how the scan of these goes on; `Took` that a part was taken, said a value and ended at a place, or stopped; `these` the part that is certain words.
+-- What scanning a part of a lookup in bytes answers: `from` the words from a place on; `after` how the scan of these goes on; `Took` that a part was taken, said a value and ended at a place, or stopped; `these` the part that is certain words; `Counts` what is known of a count that was taken.
 -- Assumes nothing.
 use mathlib.Core.Path.{_≡_}
 use mathlib.Core.List.{List, []}
@@ -33,3 +33,9 @@ pub record Took {A : Type 0} (part : (A → Rest) → Rest) (value : A) (end : �
 -- certain words, which say nothing
 abbrev pub these : List ℕ → (Unit {0} → Rest) → Rest
 these ws k = exactly ws (k tt)
+
+-- where a count was taken from the offset o, it is 6 and twice the count, which is at most `most`
+abbrev pub Counts : Scanned → ℕ → ℕ → Type 0
+Counts (At p) most o = (6 ≤ o) × ((o - 6) / 2 ≤ most)
+Counts (Wrong p) most o = Unit
+Counts Short most o = Unit

@@ -6,7 +6,7 @@ ghost use lib.ListN.{length};
 ghost use Rattle.words.specs.Words.{wordAt, wordsAt};
 ghost use Rattle.scanning.specs.Scans.{several, rise};
 ghost use Rattle.scanning.specs.Grammar.{headed, counted, covered};
-ghost use Rattle.accepting.specs.Scanned.{Took, these};
+ghost use Rattle.accepting.specs.Scanned.{Took, these, Counts};
 
 // What comes of scanning a part: where it ends; where a word is that cannot stand; that the bytes end too soon.
 pub enum Scanned {
@@ -53,18 +53,20 @@ pub fn rise(apart: usize, n: usize, bytes: &[u8], at: usize) -> Scanned
 {
     let mut left = n;
     let mut low = 0;
+    let mut high = 65535 - apart * n;
     let mut p = at;
     while 0 < left {
         if bytes.len() - p < 2 {
             return Scanned::Short;
         }
-        left -= 1;
+        high += apart;
         let glyph = words::u16_at(bytes, p) as usize;
-        if (glyph < low) | (65535 < glyph + apart * left) {
+        if (glyph < low) | (high < glyph) {
             return Scanned::Wrong(p);
         }
         low = glyph + apart;
         p += 2;
+        left -= 1;
     }
     Scanned::At(p)
 }
@@ -89,7 +91,7 @@ pub fn headed(kind: u16, bytes: &[u8]) -> Scanned
 // Where the coverage begins, behind at most `most` numbers, and how many these are.
 pub fn counted(most: usize, bytes: &[u8], at: usize) -> Scanned
     requires { ⌜ (at ≤ length (now bytes)) × (most < 65536) ⌝ }
-    ensures { λ r. ⌜ Took (counted most) ((wordAt (now (bytes .entry)) at - 6) / 2) (at + 4) (now (bytes .entry)) at r ⌝ }
+    ensures { λ r. ⌜ Took (counted most) ((wordAt (now (bytes .entry)) at - 6) / 2) (at + 4) (now (bytes .entry)) at r × Counts r most (wordAt (now (bytes .entry)) at) ⌝ }
 {
     if bytes.len() - at < 2 {
         return Scanned::Short;

@@ -2,3 +2,5 @@
 -- Assumes nothing.
 pub mod StartLaws
 pub mod RuleLaws
+pub mod SetsLaws
+pub mod GoingLaws

@@ -1,8 +1,9 @@
--- Rules, by the next of them: where they begin (`evenly-next`, `more`); one rule (`rule-stops`, `rule-number`, `rule-taken`); rules behind each other (`rules-stops`, `rules-more`, `rules-none`); a set (`set-stops`, `set-taken`).
+-- Rules, by the next of them: where they begin (`evenly-next`, `more`, `steps-fit`); one rule (`rule-stops`, `rule-number`, `rule-taken`); rules behind each other (`rules-stops`, `rules-more`, `rules-none`); a set (`set-stops`, `set-taken`).
 -- Assumes nothing.
 use mathlib.Core.Path.{_≡_, refl, sym, ap, _∙_}
 use mathlib.Core.List.{List, [], _∷_}
 use Prim.Native.Nat.{ℕ, zero, suc, _+_, _-_, _*_, _≤_, _<_}
+use native.Mathlib.Nat.{mul-le-mul-left}
 use native.Mathlib.Omega.{arith}
 use lib.ListN.{length, getD}
 use Rattle.words.specs.Words.{wordAt, wordsAt}
@@ -27,6 +28,13 @@ evenly-next (suc c) o by h = ap (λ (m : ℕ). o ∷ evenly m (o + by) by) (less
 pub more : (left by : ℕ) → 0 < left → left * by ≡ by + (left - 1) * by
 more zero by h = absurd (omega arith)
 more (suc left) by h = let less : suc left - 1 ≡ left = omega arith in rw less (omega arith)
+
+-- the offsets of a set's rules are small
+pub steps-fit : (n c : ℕ) → n ≤ 3 → c < 65536 → 2 + 2 * c + c * (2 + 2 * n) ≤ 655360
+steps-fit n c h l = omega (arith, mul-le-mul-left c (eight n h))
+  where
+    eight : (n : ℕ) → n ≤ 3 → 2 + 2 * n ≤ 8
+    eight n h = omega arith
 
 -- ---- one rule
 module _ (n : ℕ) (b : List ℕ) (at : ℕ) (lead : ℕ) where

@@ -82,21 +82,21 @@ module _ (n o : ℕ) (b : List ℕ) (p : ℕ) where
 
 -- ---- all of them
 module _ (n : ℕ) (b : List ℕ) (at : ℕ) where
-  pub starts-none : (s : ℕ) → s ≡ 0 → at ≤ length b → Took (starts n s) (startsAt s b (at + 2)) (at + 2 * s) b at (At at)
+  pub starts-none : (s : ℕ) → s ≡ 0 → at ≤ length b → Took (starts n s) (startsAt (10 + 4 * s) s b (at + 2)) (at + 2 * s) b at (At at)
   unfolding starts startsAt
   starts-none s z h = rw z (took-none b at (omega arith) h)
 
   abbrev behindFirst : ℕ → Unit {0} → (List ℕ → Rest) → Rest
   behindFirst s u k = later n s (10 + 4 * suc s) (λ os. k ((10 + 4 * suc s) ∷ os))
 
-  pub starts-stops : (s : ℕ) → 0 < s → (r : Scanned) → Took (these ((10 + 4 * s) ∷ [])) tt (at + 2 * 1) b at r → Stopped r → Took (starts n s) (startsAt s b (at + 2)) (at + 2 * s) b at r
+  pub starts-stops : (s : ℕ) → 0 < s → (r : Scanned) → Took (these ((10 + 4 * s) ∷ [])) tt (at + 2 * 1) b at r → Stopped r → Took (starts n s) (startsAt (10 + 4 * s) s b (at + 2)) (at + 2 * s) b at r
   unfolding starts
   starts-stops zero h r t k = absurd (omega arith)
   starts-stops (suc s) h r t k = took-else (these ((10 + 4 * suc s) ∷ [])) (behindFirst s) _ _ r t k
 
   pub starts-taken :
       (s : ℕ) → 0 < s → (f : Scanned) (p : ℕ) → f ≡ At p → Took (these ((10 + 4 * s) ∷ [])) tt (at + 2 * 1) b at f
-      → (r : Scanned) → Took (later n (s - 1) (10 + 4 * s)) (wordsAt b p (s - 1)) (p + 2 * (s - 1)) b p r → Took (starts n s) (startsAt s b (at + 2)) (at + 2 * s) b at r
+      → (r : Scanned) → Took (later n (s - 1) (10 + 4 * s)) (wordsAt b p (s - 1)) (p + 2 * (s - 1)) b p r → Took (starts n s) (startsAt (10 + 4 * s) s b (at + 2)) (at + 2 * s) b at r
   unfolding starts startsAt
   starts-taken zero h f p same t r u = absurd (omega arith)
   starts-taken (suc s) h f p same t r u =

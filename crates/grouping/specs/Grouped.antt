@@ -1,11 +1,13 @@
--- The rules that the bytes of a ligature lookup hold, by their places: `ruleAt`, `rulesAt` those of a set; `startsAt` where the sets begin; `setsAt`, `endAt` those of all sets, and where the last ends; what scanning these answers (`RuleTaken`, `RulesTaken`, `SetTaken`), whichever glyph they begin with.
+-- The rules that the bytes of a ligature lookup hold, by their places: `ruleAt`, `rulesAt` those of a set; `startsAt` where the sets begin, `mayHave` how many rules they may have; `setsAt`, `endAt` those of all sets, and where the last ends; what scanning these answers (`RuleTaken`, `RulesTaken`, `SetTaken`, whichever glyph they begin with; `leadsAt`, `SetsTaken`).
 -- Assumes nothing.
+use mathlib.Core.Bool.{Bool, _&&_}
 use mathlib.Core.List.{List, [], _∷_, _++_}
 use Prim.Native.Nat.{ℕ, zero, suc, _+_, _-_, _*_}
+use lib.Dec.{eqb, leb}
 use Rattle.words.specs.Words.{wordAt, wordsAt}
 use Rattle.layouts.specs.Tables.{Rule}
 use Rattle.scanning.specs.Scans.{Rest, next, any, exactly, several}
-use Rattle.scanning.specs.Grammar.{setSize, ruled, grouped}
+use Rattle.scanning.specs.Grammar.{setSize, mostRules, ruled, grouped, settled}
 use Rattle.accepting.specs.declared.Scanned.{Scanned}
 use Rattle.accepting.specs.Scanned.{Took}
 
@@ -18,10 +20,15 @@ unfoldable pub rulesAt : ℕ → ℕ → ℕ → List ℕ → ℕ → List Rule
 rulesAt n lead zero b p = []
 rulesAt n lead (suc c) b p = ruleAt n lead b p ∷ rulesAt n lead c b (p + (2 + 2 * n))
 
--- where s sets begin: the first behind the coverage, the others as said from byte p on
-unfoldable pub startsAt : ℕ → List ℕ → ℕ → List ℕ
-startsAt zero b p = []
-startsAt (suc s) b p = (10 + 4 * suc s) ∷ wordsAt b p s
+-- where s sets begin: the first at byte o, the others as said from byte p on
+unfoldable pub startsAt : ℕ → ℕ → List ℕ → ℕ → List ℕ
+startsAt o zero b p = []
+startsAt o (suc s) b p = o ∷ wordsAt b p s
+
+-- whether a set at byte o may have c rules: it ends where the next begins, and the last has any count that fits
+unfoldable pub mayHave : ℕ → ℕ → List ℕ → ℕ → Bool
+mayHave n o [] c = leb 1 c && leb c (mostRules n)
+mayHave n o (p ∷ others) c = eqb (o + setSize n c) p
 
 -- the rules of sets, by their first glyphs; the first set at byte p
 unfoldable pub setsAt : ℕ → List ℕ → List ℕ → ℕ → List Rule
@@ -46,3 +53,11 @@ RulesTaken n c b p r = (lead : ℕ) → Took (ruled n lead c) (rulesAt n lead c 
 
 abbrev pub SetTaken : ℕ → ℕ → List ℕ → ℕ → Scanned → Type 0
 SetTaken n c b p r = (lead : ℕ) → Took (grouped n lead c) (rulesAt n lead c b (p + 2 * c)) (p + c * (4 + 2 * n)) b p r
+
+-- s sets, whose first glyphs stand from byte 18 + 2 s on
+abbrev pub leadsAt : ℕ → List ℕ → List ℕ
+leadsAt s b = wordsAt b (18 + 2 * s) s
+
+abbrev pub SetsTaken : ℕ → ℕ → List ℕ → Scanned → Type 0
+SetsTaken n s b r =
+    Took (settled n (leadsAt s b) (startsAt (10 + 4 * s) s b 16)) (setsAt n (leadsAt s b) b (18 + 4 * s)) (endAt n (leadsAt s b) b (18 + 4 * s)) b (18 + 4 * s) r

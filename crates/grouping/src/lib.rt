@@ -5,9 +5,9 @@ ghost use lib.Dec.{eqb, leb};
 ghost use lib.ListN.{length};
 ghost use Rattle.words.specs.Words.{wordsAt};
 ghost use Rattle.layouts.specs.Tables.{evenly};
-ghost use Rattle.scanning.specs.Grammar.{isSize, later, starts, settled};
+ghost use Rattle.scanning.specs.Grammar.{isSize, later, starts};
 ghost use Rattle.accepting.specs.Scanned.{Took, these};
-ghost use Rattle.grouping.specs.Grouped.{startsAt, setsAt, endAt, RuleTaken, RulesTaken, SetTaken};
+ghost use Rattle.grouping.specs.Grouped.{startsAt, mayHave, RuleTaken, RulesTaken, SetTaken, SetsTaken};
 use accepting::Scanned;
 
 // Whether a set of rules of `n` components may take `size` bytes.
@@ -53,7 +53,7 @@ fn later(n: usize, count: usize, start: usize, bytes: &[u8], at: usize) -> Scann
 // Where `s` sets begin.
 pub fn starts(n: usize, s: usize, bytes: &[u8], at: usize) -> Scanned
     requires { ⌜ (at ≤ length (now bytes)) × (n ≤ 3) × (s < 16000) ⌝ }
-    ensures { λ r. ⌜ Took (starts n s) (startsAt s (now (bytes .entry)) (at + 2)) (at + 2 * s) (now (bytes .entry)) at r ⌝ }
+    ensures { λ r. ⌜ Took (starts n s) (startsAt (10 + 4 * s) s (now (bytes .entry)) (at + 2)) (at + 2 * s) (now (bytes .entry)) at r ⌝ }
 {
     if s == 0 {
         return Scanned::At(at);
@@ -134,4 +134,45 @@ fn set(n: usize, c: usize, bytes: &[u8], at: usize) -> Scanned
         return offsets;
     };
     rules(n, c, bytes, p)
+}
+
+// Whether a set at byte `o` may have `c` rules, with `left` sets behind it, the next of which says at byte `at` where it begins.
+fn may_have(n: usize, c: usize, o: usize, left: usize, bytes: &[u8], at: usize) -> bool
+    requires { ⌜ (n ≤ 3) × (c < 65536) × (o < 17179869184) × (at + 2 * left ≤ length (now bytes)) ⌝ }
+    ensures { λ r. ⌜ r ≡ mayHave n o (wordsAt (now (bytes .entry)) at left) c ⌝ }
+{
+    if left == 0 {
+        return (1 <= c) & (c <= (65535 + 2 * n) / (4 + 2 * n));
+    }
+    o + (2 + c * (4 + 2 * n)) == words::u16_at(bytes, at) as usize
+}
+
+// The sets: their offsets begin at byte 14, their first glyphs stand behind these and the head of the coverage, and they behind the glyphs.
+pub fn sets(n: usize, s: usize, bytes: &[u8]) -> Scanned
+    requires { ⌜ (0 < n) × (n ≤ 3) × (s < 16000) × (18 + 4 * s ≤ length (now bytes)) ⌝ }
+    ensures { λ r. ⌜ SetsTaken n s (now (bytes .entry)) r ⌝ }
+{
+    let mut left = s;
+    let mut o = 10 + 4 * s;
+    let mut next = 16;
+    let mut p = 18 + 4 * s;
+    while 0 < left {
+        if bytes.len() - p < 2 {
+            return Scanned::Short;
+        }
+        left -= 1;
+        let c = words::u16_at(bytes, p) as usize;
+        if may_have(n, c, o, left, bytes, next) {
+            let one = set(n, c, bytes, p + 2);
+            let Scanned::At(q) = one else {
+                return one;
+            };
+            o += 2 + c * (4 + 2 * n);
+            next += 2;
+            p = q;
+        } else {
+            return Scanned::Wrong(p);
+        }
+    }
+    Scanned::At(p)
 }

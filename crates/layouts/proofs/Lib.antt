@@ -2,3 +2,7 @@
 -- Assumes nothing.
 pub mod FitLaws
 pub mod SetLaws
+pub mod SizeLaws
+pub mod LimitLaws
+pub mod LimitExamples
+pub mod WrittenLaws

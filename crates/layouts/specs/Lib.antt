@@ -2,4 +2,5 @@
 -- Assumes nothing.
 pub mod Tables
 pub mod Lookups
+pub mod Extents
 pub mod Written

@@ -1,2 +1,3 @@
 -- The laws of `reading`.
 -- Assumes nothing.
+pub mod ReadLaws

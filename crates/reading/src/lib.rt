@@ -1,5 +1,10 @@
 // Reading: the public call that reads a lookup back into lent columns.
+ghost use Prim.Native.Nat.{_≤_};
+ghost use Rattle.layouts.specs.declared.Kind.the-variants.{Single, Ligature};
+ghost use Rattle.recognizing.specs.Recognized.{Held};
+ghost use Rattle.reading.specs.Read.{columns, Reading};
 use layouts::Kind;
+use recognizing::Recognized;
 use refusals::Refusal;
 
 // A lookup as read: its flags, how many rules it has, and whether it is single, or ligature with its component number.
@@ -13,4 +18,56 @@ pub struct Lookup {
 pub enum Answer {
     Read(Lookup),
     Refused(Refusal),
+}
+
+// The single lookup that the bytes are, if the columns have room for it.
+fn read_single(bytes: &[u8], glyphs: &mut [u16], substitutes: &mut [u16]) -> Answer
+    requires { ⌜ Held Single (now bytes) ⌝ }
+    ensures { λ r. ⌜ Reading (now (bytes .entry)) (columns (now (glyphs .entry)) (now (substitutes .entry))) r (columns (now (glyphs .exit)) (now (substitutes .exit))) ⌝ }
+{
+    let n = (bytes.len() - 18) / 4;
+    if (glyphs.len() < n) | (substitutes.len() < n) {
+        return Answer::Refused(Refusal::NoRoom);
+    }
+    words::get_words(bytes, 18 + 2 * n, n, glyphs);
+    words::get_words(bytes, 14, n, substitutes);
+    let flags = words::u16_at(bytes, 2);
+    Answer::Read(Lookup {
+        flags: flags,
+        len: n,
+        kind: Kind::Single,
+    })
+}
+
+// The ligature lookup that the bytes are, with `n` components, if the columns have room for it.
+fn read_ligature(n: u8, bytes: &[u8], components: &mut [u16], ligatures: &mut [u16]) -> Answer
+    requires { ⌜ Held (Ligature n) (now bytes) × ((2 ≤ n) × (n ≤ 3)) ⌝ }
+    ensures { λ r. ⌜ Reading (now (bytes .entry)) (columns (now (components .entry)) (now (ligatures .entry))) r (columns (now (components .exit)) (now (ligatures .exit))) ⌝ }
+{
+    let width = n as usize;
+    let sets = (words::u16_at(bytes, 10) as usize - 6) / 2;
+    let count = (bytes.len() - (18 + 6 * sets)) / (4 + 2 * width);
+    if (components.len() < count * width) | (ligatures.len() < count) {
+        return Answer::Refused(Refusal::NoRoom);
+    }
+    filling::fill_sets(width, sets, bytes, components, ligatures);
+    let flags = words::u16_at(bytes, 2);
+    Answer::Read(Lookup {
+        flags: flags,
+        len: count,
+        kind: Kind::Ligature(n),
+    })
+}
+
+// Reads the lookup that the bytes are into two columns: its glyphs, or its components one rule behind the other, and its substitutes, or its ligatures.
+pub fn read_lookup(bytes: &[u8], glyphs: &mut [u16], substitutes: &mut [u16]) -> Answer
+    ensures { λ r. ⌜ Reading (now (bytes .entry)) (columns (now (glyphs .entry)) (now (substitutes .entry))) r (columns (now (glyphs .exit)) (now (substitutes .exit))) ⌝ }
+{
+    match recognizing::recognize(bytes) {
+        Recognized::Nothing => Answer::Refused(Refusal::NoLookup),
+        Recognized::As(kind) => match kind {
+            Kind::Single => read_single(bytes, glyphs, substitutes),
+            Kind::Ligature(n) => read_ligature(n, bytes, glyphs, substitutes),
+        },
+    }
 }

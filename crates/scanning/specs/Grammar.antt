@@ -1,5 +1,5 @@
 -- Which words are a lookup (document 01, "Reading back"): word by word, each with the values that the words before it leave to it, so that the place of the first word that cannot stand is known. `singleScan`, `ligatureScan` a lookup of each kind, `scan` of any;
--- `fewest`, `mostRules`, `mostSets` the limits that the 16 bits of an offset set; `reading` what bytes say.
+-- `mostSingle`, `mostRules`, `mostSets` the limits that the 16 bits of an offset set; `reading` what bytes say.
 -- Assumes nothing.
 use mathlib.Core.Bool.{Bool, cond, _&&_}
 use mathlib.Core.List.{List, [], _∷_, _++_, map}
@@ -9,7 +9,7 @@ use lib.ListN.{length}
 use Rattle.words.specs.Words.{wordsAt}
 use Rattle.layouts.specs.declared.Kind.the-variants.{Single, Ligature}
 use Rattle.layouts.specs.Tables.{Rule, evenly}
-use Rattle.layouts.specs.Lookups.{Lookup, lookupOf}
+use Rattle.layouts.specs.Lookups.{lookupOf}
 use Rattle.scanning.specs.Scans.{Scan, Rest, fine, wrong, short, next, any, exactly, several, rise, end, further}
 
 -- Lookup: a type, any flags, one subtable, which begins at byte 8
@@ -105,7 +105,7 @@ unfoldable pub scan : Rest
 scan ws = further (singleScan 0 ws) (further (ligatureScan 2 ws) (ligatureScan 3 ws))
 
 -- bytes are read as words; of an odd number of bytes one is left over behind the last word
-abbrev leftOver : Scan → Scan
+abbrev pub leftOver : Scan → Scan
 leftOver (fine l) = wrong 0
 leftOver (wrong n) = wrong n
 leftOver short = short

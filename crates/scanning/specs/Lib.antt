@@ -2,3 +2,4 @@
 -- Assumes nothing.
 pub mod Scans
 pub mod Grammar
+pub mod Exact

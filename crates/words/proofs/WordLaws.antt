@@ -1,15 +1,15 @@
 -- Words and their bytes: how many (`length-bytes`, `length-words`); words one behind the other (`bytes-append`, `words-append`); the next word (`words-next`, `words-none`); bytes read give the words that were written (`read-back`), and words read give back the bytes (`bytes-read`);
--- a word of bytes fits (`word-fits`, `words-fit`); a column filled from the front (`fill-word`).
+-- a word of bytes fits (`word-fits`, `words-fit`); a column filled (`paste-front`, `fill-last`).
 -- Assumes nothing.
 use mathlib.Core.Path.{_≡_, refl, sym, ap, ap₂, _∙_}
 use mathlib.Core.List.{List, [], _∷_, _++_}
 use Prim.Native.Nat.{ℕ, zero, suc, _+_, _-_, _*_, _/_, _%_, _≤_, _<_}
 use native.Mathlib.Nat.{add-zero, zero-add, suc-add, div-add-mod'}
-use native.Mathlib.Numerals.{add-one}
 use native.Mathlib.Omega.{arith}
 use lib.ListN.{length, set, drop, getD}
 use lib.Arith.{digits-div, digits-mod}
-use lib.Seq.{set-at, append-snoc, drop-cons}
+use Rattle.laws.specs.Lists.{pasted}
+use Rattle.laws.proofs.PasteLaws.{paste-one, paste-before}
 use Rattle.words.specs.Words.{bytes, wordAt, wordsAt}
 
 pub length-bytes : (ws : List ℕ) → length (bytes ws) ≡ 2 * length ws
@@ -93,12 +93,21 @@ module _ (b : List ℕ) (h : (i : ℕ) → getD b i 0 < 256) where
   words-fit i (suc n) zero = word-fits i
   words-fit i (suc n) (suc k) = words-fit (i + 2) n k
 
--- ---- a column filled from the front
+-- ---- a column filled
+-- a part written over from the start
+pub paste-front : (P l : List ℕ) → pasted P 0 l ≡ P ++ drop (length P) l
+unfolding pasted
+paste-front P l = ap (λ (k : ℕ). P ++ drop k l) (zero-add (length P))
+
 words-one : (b : List ℕ) (i : ℕ) → wordsAt b i 1 ≡ wordAt b i ∷ []
 unfolding wordsAt
 words-one b i = refl
 
-pub fill-word : (b : List ℕ) (i k : ℕ) (d : List ℕ) → k < length d → set (wordsAt b i k ++ drop k d) k (wordAt b (i + 2 * k)) ≡ wordsAt b i (k + 1) ++ drop (k + 1) d
-fill-word b i k d h =
-    rw (drop-cons d k 0 h, set-at (wordsAt b i k) (getD d k 0) (drop (suc k) d) (wordAt b (i + 2 * k)) k (length-words b i k), words-append b i k 1, words-one, add-one k)
-    (sym (append-snoc (wordsAt b i k) (wordAt b (i + 2 * k)) (drop (suc k) d)))
+-- the last of i words is stored, and those before it are to come
+pub fill-last : (b : List ℕ) (at i : ℕ) (l : List ℕ) → 0 < i → i ≤ length l → (w : ℕ) → w ≡ wordAt b (at + 2 * (i - 1)) → pasted (wordsAt b at (i - 1)) 0 (set l (i - 1) w) ≡ pasted (wordsAt b at i) 0 l
+fill-last b at i l h k w e =
+    let one : i - 1 + 1 ≡ i = omega arith in
+    let long : length (wordsAt b at (i - 1)) ≡ i - 1 = length-words b at (i - 1) in
+    ap (pasted (wordsAt b at (i - 1)) 0) (paste-one w (i - 1) l (omega arith))
+    ∙ paste-before (wordsAt b at (i - 1)) (w ∷ []) l 0 (i - 1) (omega (arith, long)) (omega arith)
+    ∙ ap (λ (x : List ℕ). pasted x 0 l) (ap (λ (v : ℕ). wordsAt b at (i - 1) ++ (v ∷ [])) e ∙ sym (words-append b at (i - 1) 1 ∙ rw (words-one)) ∙ ap (wordsAt b at) one)

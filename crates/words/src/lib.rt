@@ -37,14 +37,14 @@ pub fn u16_at(bytes: &[u8], at: usize) -> u16
     (bytes[at] as u16) * 256 + (bytes[at + 1] as u16)
 }
 
-// Reads `n` words from byte `at` on into the first places of `column`.
+// Reads `n` words from byte `at` on into the first places of `column`, from the last to the first: so the compiler reads many at once.
 pub fn get_words(bytes: &[u8], at: usize, n: usize, column: &mut [u16])
     requires { ⌜ (at + 2 * n ≤ length (now bytes)) × (n ≤ length (now column)) ⌝ }
     ensures { λ _. ⌜ now (column .exit) ≡ wordsAt (now (bytes .entry)) at n ++ drop n (now (column .entry)) ⌝ }
 {
-    let mut i = 0;
-    while i < n {
+    let mut i = n;
+    while 0 < i {
+        i -= 1;
         column[i] = u16_at(bytes, at + 2 * i);
-        i += 1;
     }
 }

@@ -6,7 +6,7 @@ use Prim.Native.Nat.{_%_}
 use borrow.Author.Tests.{ltb-false}
 use lib.Dec.{eqb, ltb}
 use Rattle.laws.proofs.TestLaws.{neither}
-use Rattle.accepting.proofs.SeriesLaws.{counted-short, counted-odd, counted-many, counted-taken}
+use Rattle.accepting.proofs.SeriesLaws.{counted-short, counted-odd, counted-many, counted-taken, counts-known}
 use borrow.Author.Needs.{needs}
 use Rattle.accepting.proofs.counted.Statement.{statement}
 use Rattle.accepting.proofs.counted.Tie as tie
@@ -21,7 +21,7 @@ sub-if1 c = omega (arith, c .before .pre .0)
 returns : tie.Need-returns
 returns c =
     let s = c .before .before in
-    counted-short (s .args .most) (s .args .bytes .now) (s .args .at) (omega (arith, s .pre .0, c .if1 .taken))
+    (counted-short (s .args .most) (s .args .bytes .now) (s .args .at) (omega (arith, s .pre .0, c .if1 .taken)), tt)
 
 u16-at-requires : tie.Need-u16-at-requires
 u16-at-requires c κs = omega (arith, c .before .before .pre .0, c .if1 .left)
@@ -33,7 +33,7 @@ returns-2 : tie.Need-returns-2
 returns-2 c =
     let u = c .before in
     let s = u .before .before .before in
-    counted-odd (s .args .most) (s .args .bytes .now) (s .args .at) (omega (arith, s .pre .0, u .before .if1 .left)) (u .u16-at .result) (u .u16-at .ensures) (c .if2 .taken)
+    (counted-odd (s .args .most) (s .args .bytes .now) (s .args .at) (omega (arith, s .pre .0, u .before .if1 .left)) (u .u16-at .result) (u .u16-at .ensures) (c .if2 .taken), tt)
 
 sub-n : tie.Need-sub-n
 sub-n c = omega (arith, ltb-false (c .before .u16-at .result) 6 (neither (ltb (c .before .u16-at .result) 6) (not (eqb (c .before .u16-at .result % 2) 0)) (c .if2 .left) .0))
@@ -42,7 +42,7 @@ returns-3 : tie.Need-returns-3
 returns-3 c =
     let u = c .before .before in
     let s = u .before .before .before in
-    counted-many (s .args .most) (s .args .bytes .now) (s .args .at) (omega (arith, s .pre .0, u .before .if1 .left)) (u .u16-at .result) (u .u16-at .ensures) (c .if3 .taken)
+    (counted-many (s .args .most) (s .args .bytes .now) (s .args .at) (omega (arith, s .pre .0, u .before .if1 .left)) (u .u16-at .result) (u .u16-at .ensures) (c .if3 .taken), tt)
 
 cast-t10 : tie.Need-cast-t10
 cast-t10 c = omega (arith, c .if3 .left, c .before .before .before .before .before .pre .1)
@@ -60,8 +60,10 @@ returns-4 : tie.Need-returns-4
 returns-4 c =
     let e = c .before .before in
     let u = e .before .before in
-    let s = u .before .before .before in
-    counted-taken (s .args .most) (s .args .bytes .now) (s .args .at) (omega (arith, s .pre .0, u .before .if1 .left)) (u .u16-at .result) (u .u16-at .ensures) (e .before .if2 .left) (e .if3 .left) _ (c .exactly .ensures)
+    let s = u .before .before .before in (
+      counted-taken (s .args .most) (s .args .bytes .now) (s .args .at) (omega (arith, s .pre .0, u .before .if1 .left)) (u .u16-at .result) (u .u16-at .ensures) (e .before .if2 .left) (e .if3 .left) _ (c .exactly .ensures),
+      rw (← u .u16-at .ensures) (counts-known (c .exactly .result) (s .args .most) (u .u16-at .result) (e .before .if2 .left) (e .if3 .left)),
+    )
 
 pub counted-spec : {M : Type 1} → statement M
 counted-spec =

@@ -30,7 +30,7 @@ sub-if1 : tie.Need-sub-if1 Inv-loop μ-loop
 sub-if1 c = omega (arith, c .before .loop .inv .1)
 
 returns : tie.Need-returns Inv-loop μ-loop
-returns c = 
+returns c =
     let l = c .before .before in
     let a = l .before .before .args in
     l .loop .inv .4 Short (rw (evenly-next (l .loop .left) (l .loop .o) (a .by) (c .before .loop-test .taken)) (these-short _ _ (a .bytes .now) (l .loop .p) (omega (arith, l .loop .inv .1, c .if1 .taken))))
@@ -42,7 +42,7 @@ cast-if2 : tie.Need-cast-if2 Inv-loop μ-loop
 cast-if2 c = search needs
 
 returns-2 : tie.Need-returns-2 Inv-loop μ-loop
-returns-2 c = 
+returns-2 c =
     let u = c .before in
     let e = u .before in
     let l = e .before .before in
@@ -53,7 +53,7 @@ sub-left : tie.Need-sub-left Inv-loop μ-loop
 sub-left c = omega (arith, c .before .before .before .loop-test .taken)
 
 add-o : tie.Need-add-o Inv-loop μ-loop
-add-o c = 
+add-o c =
     let l = c .before .before .before .before in
     let a = l .before .before .args in
     omega (arith, l .loop .inv .3, l .before .before .pre .1, more (l .loop .left) (a .by) (c .before .before .before .loop-test .taken))
@@ -65,17 +65,21 @@ loop-less : tie.Need-loop-less Inv-loop μ-loop
 loop-less c = omega (arith, c .before .before .before .loop-test .taken)
 
 loop-again : tie.Need-loop-again Inv-loop μ-loop
-loop-again c = 
+loop-again c =
     let u = c .before in
     let e = u .before in
     let l = e .before .before in
     let a = l .before .before .args in
-    let fits : l .loop .p + 2 ≤ length (a .bytes .now) = omega (arith, l .loop .inv .1, e .if1 .left) in
-    (omega (arith, l .loop .inv .0), fits, omega (arith, l .loop .inv .2, e .before .loop-test .taken), omega (arith, l .loop .inv .3, more (l .loop .left) (a .by) (e .before .loop-test .taken)),
-     λ r t. l .loop .inv .4 r (rw (evenly-next (l .loop .left) (l .loop .o) (a .by) (e .before .loop-test .taken)) (these-more _ _ (a .bytes .now) (l .loop .p) fits (sym (u .u16-at .ensures) ∙ c .if2 .left) r t)))
+    let fits : l .loop .p + 2 ≤ length (a .bytes .now) = omega (arith, l .loop .inv .1, e .if1 .left) in (
+      omega (arith, l .loop .inv .0),
+      fits,
+      omega (arith, l .loop .inv .2, e .before .loop-test .taken),
+      omega (arith, l .loop .inv .3, more (l .loop .left) (a .by) (e .before .loop-test .taken)),
+      λ r t. l .loop .inv .4 r (rw (evenly-next (l .loop .left) (l .loop .o) (a .by) (e .before .loop-test .taken)) (these-more _ _ (a .bytes .now) (l .loop .p) fits (sym (u .u16-at .ensures) ∙ c .if2 .left) r t)),
+    )
 
 returns-3 : tie.Need-returns-3 Inv-loop μ-loop
-returns-3 c = 
+returns-3 c =
     let l = c .before in
     let a = l .before .before .args in
     let none : l .loop .left ≡ 0 = omega (arith, c .loop-test .left) in

@@ -24,12 +24,12 @@ div-c : tie.Need-div-c
 div-c c = omega arith
 
 mul-result : tie.Need-mul-result
-mul-result c = 
+mul-result c =
     let a = c .before .args in
     omega (arith, div-mul-le-self (a .size - 2) (4 + 2 * a .n), c .before .pre .1)
 
 add-result : tie.Need-add-result
-add-result c = 
+add-result c =
     let a = c .before .args in
     omega (arith, div-mul-le-self (a .size - 2) (4 + 2 * a .n), c .before .pre .1)
 

@@ -31,7 +31,7 @@ sub-if1 : tie.Need-sub-if1 Inv-loop μ-loop
 sub-if1 c = omega (arith, c .before .loop .inv .1)
 
 returns : tie.Need-returns Inv-loop μ-loop
-returns c = 
+returns c =
     let l = c .before .before in
     let a = l .before .before .args in
     l .loop .inv .3 Short (later-short (a .n) (l .loop .o) (a .bytes .now) (l .loop .p) (l .loop .left) (c .before .loop-test .taken) (omega (arith, l .loop .inv .1, c .if1 .taken)))
@@ -46,7 +46,7 @@ cast-w : tie.Need-cast-w Inv-loop μ-loop
 cast-w c = search needs
 
 returns-2 : tie.Need-returns-2 Inv-loop μ-loop
-returns-2 c = 
+returns-2 c =
     let u = c .before in
     let e = u .before in
     let l = e .before .before in
@@ -55,7 +55,7 @@ returns-2 c =
     l .loop .inv .3 (Wrong (l .loop .p)) (rw (← one) (later-low (a .n) (l .loop .o) (a .bytes .now) (l .loop .p) (l .loop .left - 1) (omega (arith, l .loop .inv .1, e .if1 .left)) (omega (arith, u .u16-at .ensures, c .if2 .taken))))
 
 is-size-requires : tie.Need-is-size-requires Inv-loop μ-loop
-is-size-requires c κs = 
+is-size-requires c κs =
     let u = c .before in
     (u .before .before .before .before .before .pre .1, omega (arith, u .u16-at .ok))
 
@@ -66,12 +66,12 @@ add-if3 : tie.Need-add-if3 Inv-loop μ-loop
 add-if3 c = omega (arith, c .before .before .before .before .before .before .before .pre .1)
 
 mul-if3-2 : tie.Need-mul-if3-2 Inv-loop μ-loop
-mul-if3-2 c = 
+mul-if3-2 c =
     let l = c .before .before .before .before .before in
     omega (arith, room-fits (l .before .before .args .n) (l .loop .left - 1) (l .before .before .pre .1) (omega (arith, l .loop .inv .0, l .before .before .pre .2)))
 
 add-if3-2 : tie.Need-add-if3-2 Inv-loop μ-loop
-add-if3-2 c = 
+add-if3-2 c =
     let l = c .before .before .before .before .before in
     omega (arith, room-fits (l .before .before .args .n) (l .loop .left - 1) (l .before .before .pre .1) (omega (arith, l .loop .inv .0, l .before .before .pre .2)), c .before .before .u16-at .ok)
 
@@ -82,7 +82,7 @@ loop-less : tie.Need-loop-less Inv-loop μ-loop
 loop-less c = omega (arith, c .before .before .before .before .before .loop-test .taken)
 
 loop-again : tie.Need-loop-again Inv-loop μ-loop
-loop-again c = 
+loop-again c =
     let i = c .before in
     let u = i .before .before in
     let e = u .before in
@@ -91,12 +91,15 @@ loop-again c =
     let w = u .u16-at .ensures in
     let one : l .loop .left - 1 + 1 ≡ l .loop .left = omega (arith, e .before .loop-test .taken) in
     let fits : l .loop .p + 2 ≤ length (a .bytes .now) = omega (arith, l .loop .inv .1, e .if1 .left) in
-    let test : stands (a .n) (l .loop .o) (l .loop .left - 1) (wordAt (a .bytes .now) (l .loop .p)) ≡ true = rw (← w, ← i .is-size .ensures) (c .if3 .taken) in
-    (omega (arith, l .loop .inv .0), fits, omega (arith, l .loop .inv .2, one),
-     λ r k. l .loop .inv .3 r (rw (← one) (later-more (a .n) (l .loop .o) (a .bytes .now) (l .loop .p) (l .loop .left - 1) fits test r (rw (← w) k))))
+    let test : stands (a .n) (l .loop .o) (l .loop .left - 1) (wordAt (a .bytes .now) (l .loop .p)) ≡ true = rw (← w, ← i .is-size .ensures) (c .if3 .taken) in (
+      omega (arith, l .loop .inv .0),
+      fits,
+      omega (arith, l .loop .inv .2, one),
+      λ r k. l .loop .inv .3 r (rw (← one) (later-more (a .n) (l .loop .o) (a .bytes .now) (l .loop .p) (l .loop .left - 1) fits test r (rw (← w) k))),
+    )
 
 returns-3 : tie.Need-returns-3 Inv-loop μ-loop
-returns-3 c = 
+returns-3 c =
     let i = c .before in
     let u = i .before .before in
     let e = u .before in
@@ -109,7 +112,7 @@ returns-3 c =
     l .loop .inv .3 (Wrong (l .loop .p)) (rw (← one) (later-wrong (a .n) (l .loop .o) (a .bytes .now) (l .loop .p) (l .loop .left - 1) fits test))
 
 returns-4 : tie.Need-returns-4 Inv-loop μ-loop
-returns-4 c = 
+returns-4 c =
     let l = c .before in
     let a = l .before .before .args in
     let none : l .loop .left ≡ 0 = omega (arith, c .loop-test .left) in

@@ -42,7 +42,7 @@ returns-2 c = λ lead.
     rule-number (a .n) (a .bytes .now) (a .at) lead (l .ligature .given .0 .0) (l .ligature .given .1) (s .several .ensures) _ (c .before .exactly .ensures) (c .match2 .keys2)
 
 sub-several : tie.Need-sub-several
-sub-several c = 
+sub-several c =
     let l = c .before .before .before .before .before .before in
     omega (arith, l .before .before .before .before .pre .1)
 

@@ -26,7 +26,7 @@ loop-holds : tie.Need-loop-holds Inv-loop μ-loop
 loop-holds c = (c .before .pre .0, refl, λ lead r t. t)
 
 rule-requires : tie.Need-rule-requires Inv-loop μ-loop
-rule-requires c κs = 
+rule-requires c κs =
     let s = c .before .before .before in
     (c .before .loop .inv .0, s .pre .1, s .pre .2)
 
@@ -47,15 +47,17 @@ loop-less : tie.Need-loop-less Inv-loop μ-loop
 loop-less c = omega (arith, c .before .before .before .before .loop-test .taken)
 
 loop-again : tie.Need-loop-again Inv-loop μ-loop
-loop-again c = 
+loop-again c =
     let o = c .before in
     let u = o .before .before in
     let l = u .before .before in
     let a = l .before .before .args in
     let place = took-place _ _ (o .one .given .1) (u .rule .ensures 0) in
-    let steps = more (l .loop .left) (2 + 2 * a .n) (u .before .loop-test .taken) in
-    (place .1, omega (arith, l .loop .inv .1, place .0, steps),
-     λ lead r t. l .loop .inv .2 lead r (rules-more (a .n) (a .bytes .now) (l .loop .p) lead (l .loop .left) (u .before .loop-test .taken) _ (o .one .given .0 .0) (o .one .given .1) (u .rule .ensures lead) r t))
+    let steps = more (l .loop .left) (2 + 2 * a .n) (u .before .loop-test .taken) in (
+      place .1,
+      omega (arith, l .loop .inv .1, place .0, steps),
+      λ lead r t. l .loop .inv .2 lead r (rules-more (a .n) (a .bytes .now) (l .loop .p) lead (l .loop .left) (u .before .loop-test .taken) _ (o .one .given .0 .0) (o .one .given .1) (u .rule .ensures lead) r t),
+    )
 
 returns-2 : tie.Need-returns-2 Inv-loop μ-loop
 returns-2 c = λ lead.

@@ -33,7 +33,7 @@ enum-known-first : tie.Need-enum-known-first
 enum-known-first c = c .match .keys1
 
 returns-2 : tie.Need-returns-2
-returns-2 c = 
+returns-2 c =
     let i = c .before .before .before in
     let a = i .before .before .args in
     starts-stops (a .n) (a .bytes .now) (a .at) (a .s) (omega (arith, i .if1 .left)) _ (c .before .exactly .ensures) (c .match .keys2)
@@ -42,13 +42,13 @@ sub-later : tie.Need-sub-later
 sub-later c = omega (arith, c .before .before .before .before .before .if1 .left)
 
 later-requires : tie.Need-later-requires
-later-requires c κs = 
+later-requires c κs =
     let f = c .before in
     let s = f .before .before .before .before .before .before in
     (took-place _ _ (f .first .given .1) (f .before .before .exactly .ensures) .1, s .pre .1, omega (arith, s .pre .2))
 
 returns-3 : tie.Need-returns-3
-returns-3 c = 
+returns-3 c =
     let f = c .before .before in
     let e = f .before .before in
     let i = e .before .before in

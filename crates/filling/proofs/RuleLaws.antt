@@ -1,0 +1,63 @@
+-- The rules that bytes hold: how many they are, and their components (`length-rules`, `length-flat`); those of two lists (`flat-append`, `ligatures-append`); the sets' rules, by the next set (`sets-next`), how many they are by where they end (`end-is`), and that their end is behind their beginning.
+-- Assumes nothing.
+use mathlib.Core.Path.{_≡_, refl, sym, ap, _∙_}
+use mathlib.Core.List.{List, [], _∷_, _++_, map, map-append, append-assoc}
+use Prim.Native.Nat.{ℕ, zero, suc, _+_, _-_, _*_, _≤_, _<_}
+use native.Mathlib.Nat.{zero-mul}
+use native.Mathlib.Omega.{arith}
+use lib.ListN.{length, length-append, length-map}
+use Rattle.words.specs.Words.{wordAt, wordsAt}
+use Rattle.words.proofs.WordLaws.{length-words}
+use Rattle.layouts.specs.Tables.{Rule}
+use Rattle.scanning.specs.Grammar.{setSize, flat, ligaturesOf}
+use Rattle.grouping.specs.Grouped.{ruleAt, rulesAt, setsAt, endAt}
+
+pub flat-append : (a b : List Rule) → flat (a ++ b) ≡ flat a ++ flat b
+flat-append [] b = refl
+flat-append (r ∷ a) b = ap (λ (l : List ℕ). r .components ++ l) (flat-append a b) ∙ sym (append-assoc (r .components) (flat a) (flat b))
+
+pub length-rule : (n lead : ℕ) (b : List ℕ) (p : ℕ) → 0 < n → length (ruleAt n lead b p .components) ≡ n
+unfolding ruleAt
+length-rule n lead b p h = omega (arith, length-words b (p + 4) (n - 1), h)
+
+pub length-rules : (n lead c : ℕ) (b : List ℕ) (p : ℕ) → length (rulesAt n lead c b p) ≡ c
+unfolding rulesAt
+length-rules n lead zero b p = refl
+length-rules n lead (suc c) b p = ap suc (length-rules n lead c b (p + (2 + 2 * n)))
+
+pub length-flat : (n lead c : ℕ) (b : List ℕ) (p : ℕ) → 0 < n → length (flat (rulesAt n lead c b p)) ≡ c * n
+unfolding rulesAt
+length-flat n lead zero b p h = sym (zero-mul n)
+length-flat n lead (suc c) b p h =
+    omega (arith, length-append (ruleAt n lead b p .components) (flat (rulesAt n lead c b (p + (2 + 2 * n)))), length-rule n lead b p h, length-flat n lead c b (p + (2 + 2 * n)) h)
+
+-- ---- of all sets
+pub sets-next :
+    (n : ℕ) (b : List ℕ) (lp p m : ℕ)
+    → setsAt n (wordsAt b lp (m + 1)) b p ≡ rulesAt n (wordAt b lp) (wordAt b p) b (p + 2 + 2 * wordAt b p) ++ setsAt n (wordsAt b (lp + 2) m) b (p + setSize n (wordAt b p))
+unfolding setsAt wordsAt
+sets-next n b lp p m = let one : m + 1 ≡ suc m = omega arith in rw one
+
+pub end-next : (n : ℕ) (b : List ℕ) (lp p m : ℕ) → endAt n (wordsAt b lp (m + 1)) b p ≡ endAt n (wordsAt b (lp + 2) m) b (p + setSize n (wordAt b p))
+unfolding endAt wordsAt
+end-next n b lp p m = let one : m + 1 ≡ suc m = omega arith in rw one
+
+-- each set takes two bytes and its rules
+pub end-is : (n : ℕ) (leads b : List ℕ) (p : ℕ) → endAt n leads b p ≡ p + 2 * length leads + length (setsAt n leads b p) * (4 + 2 * n)
+unfolding endAt setsAt
+end-is n [] b p = omega (arith, zero-mul (4 + 2 * n))
+end-is n (lead ∷ leads) b p =
+    let c : ℕ = wordAt b p in
+    let m : ℕ = length (setsAt n leads b (p + setSize n c)) in
+    end-is n leads b (p + setSize n c)
+    ∙ rw (length-append (rulesAt n lead c b (p + 2 + 2 * c)) (setsAt n leads b (p + setSize n c)), length-rules n lead c b (p + 2 + 2 * c)) (omega arith)
+
+pub flat-sets : (n : ℕ) (leads b : List ℕ) (p : ℕ) → 0 < n → length (flat (setsAt n leads b p)) ≡ length (setsAt n leads b p) * n
+unfolding setsAt
+flat-sets n [] b p h = sym (zero-mul n)
+flat-sets n (lead ∷ leads) b p h =
+    let c : ℕ = wordAt b p in
+    let rs : List Rule = rulesAt n lead c b (p + 2 + 2 * c) in
+    let others : List Rule = setsAt n leads b (p + setSize n c) in
+    ap length (flat-append rs others) ∙ length-append (flat rs) (flat others)
+    ∙ rw (length-flat n lead c b (p + 2 + 2 * c) h, flat-sets n leads b (p + setSize n c) h, length-append rs others, length-rules n lead c b (p + 2 + 2 * c)) (omega arith)

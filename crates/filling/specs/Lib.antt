@@ -1,0 +1,3 @@
+-- What the contracts of `filling` cite.
+-- Assumes nothing.
+pub mod Filled

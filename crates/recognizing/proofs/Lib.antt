@@ -1,0 +1,4 @@
+-- The laws of `recognizing`.
+-- Assumes nothing.
+pub mod WholeLaws
+pub mod EndLaws

@@ -1,0 +1,3 @@
+-- What the contracts of `recognizing` cite.
+-- Assumes nothing.
+pub mod Recognized

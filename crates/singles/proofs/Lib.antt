@@ -1,0 +1,3 @@
+-- The laws of `singles`.
+-- Assumes nothing.
+pub mod SingleLaws

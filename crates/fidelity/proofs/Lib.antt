@@ -1,0 +1,5 @@
+-- Each promise, proved.
+-- Assumes nothing.
+pub mod ChangeLaws
+pub mod StandLaws
+pub mod FollowLaws

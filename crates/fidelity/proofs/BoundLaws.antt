@@ -1,14 +1,14 @@
 -- Ligature lookups of one set (`one-set-fits`) and of sets of one rule each (`lone-rules-fit`): when they fit, over the number of components; and with 2 and 3 of them, from which number of rules on they do not (`one-set-most`, `lone-rules-most`).
 -- Assumes nothing.
-use mathlib.Core.Path.{_≡_, refl, sym, ap, _∙_}
-use mathlib.Core.Bool.{Bool, true, false, cond, _&&_}
+use mathlib.Core.Path.{_≡_, refl, sym, _∙_}
+use mathlib.Core.Bool.{_&&_}
 use mathlib.Core.Logic.{_⊎_, inl, inr}
 use mathlib.Core.List.{List, [], _∷_}
 use Prim.Native.Nat.{ℕ, suc, _+_, _*_, _<_, _≤_}
 use native.Mathlib.Nat.{zero-add, mul-le-mul-right}
 use native.Mathlib.Omega.{arith}
-use borrow.Author.Tests.{lt-ltb, le-ltb, le-leb, lt-leb, leb-true, leb-false, ltb-true, ltb-false}
-use lib.Dec.{eqb, ltb, leb}
+use borrow.Author.Tests.{lt-ltb, le-leb, leb-true, ltb-true}
+use lib.Dec.{ltb, leb}
 use lib.ListN.{length}
 use Rattle.laws.proofs.TestLaws.{and-true, same-truth}
 use Rattle.layouts.specs.Tables.{Rule, sets, ligature}
@@ -17,6 +17,7 @@ use Rattle.layouts.specs.Extents.{longest, lastFrom}
 use Rattle.layouts.proofs.SetLaws.{Grouped, grouped}
 use Rattle.layouts.proofs.SizeLaws.{rulesIn, rules-in-sets}
 use Rattle.layouts.proofs.LimitLaws.{Regular, ligature-fits}
+use Rattle.fidelity.specs.Writing.{mostInSet, mostAlone}
 
 -- a test of one number is that of another that is below its limit where the first is
 same-limit : (a m b k : ℕ) → (a < m → b < k) → (b < k → a < m) → ltb a m ≡ ltb b k
@@ -95,10 +96,10 @@ module _ (flags n : ℕ) (rs : List Rule) (low : 0 < n) (f : flags < 65536) (g :
               (same-limit (8 + 6 * suc (length gs) + length gs * size) 65536 (suc (length gs) * (10 + 2 * n)) (65532 + 2 * n) (on (length gs)) (back (length gs)))
 
 -- ---- the limits
-pub one-set-most : (n c : ℕ) → (n ≡ 2) ⊎ (n ≡ 3) → ltb (c * (4 + 2 * n)) (65536 + 2 * n) ≡ leb c (cond (eqb n 2) 8192 6554)
-one-set-most n c (inl e) = rw e (most-of (c * 8) 65540 c 8192 (λ h. omega arith) (λ h. omega arith))
-one-set-most n c (inr e) = rw e (most-of (c * 10) 65542 c 6554 (λ h. omega arith) (λ h. omega arith))
+pub one-set-most : (n c : ℕ) → (n ≡ 2) ⊎ (n ≡ 3) → ltb (c * (4 + 2 * n)) (65536 + 2 * n) ≡ leb c (mostInSet n)
+one-set-most n c (inl e) = rw e (most-of (c * 8) 65540 c (mostInSet 2) (λ h. omega arith) (λ h. omega arith))
+one-set-most n c (inr e) = rw e (most-of (c * 10) 65542 c (mostInSet 3) (λ h. omega arith) (λ h. omega arith))
 
-pub lone-rules-most : (n c : ℕ) → (n ≡ 2) ⊎ (n ≡ 3) → ltb (c * (10 + 2 * n)) (65532 + 2 * n) ≡ leb c (cond (eqb n 2) 4681 4096)
-lone-rules-most n c (inl e) = rw e (most-of (c * 14) 65536 c 4681 (λ h. omega arith) (λ h. omega arith))
-lone-rules-most n c (inr e) = rw e (most-of (c * 16) 65538 c 4096 (λ h. omega arith) (λ h. omega arith))
+pub lone-rules-most : (n c : ℕ) → (n ≡ 2) ⊎ (n ≡ 3) → ltb (c * (10 + 2 * n)) (65532 + 2 * n) ≡ leb c (mostAlone n)
+lone-rules-most n c (inl e) = rw e (most-of (c * 14) 65536 c (mostAlone 2) (λ h. omega arith) (λ h. omega arith))
+lone-rules-most n c (inr e) = rw e (most-of (c * 16) 65538 c (mostAlone 3) (λ h. omega arith) (λ h. omega arith))

@@ -1,19 +1,17 @@
 -- Following offsets finds what was laid out: the pairs of a single lookup (`pairs-followed`), a rule, a set and all sets of a ligature lookup (`rule-followed`, `rules-followed`, `sets-followed`); and so all rules of a lookup (`single-followed`, `ligature-followed`).
 -- Assumes nothing.
 use mathlib.Core.Path.{_≡_, refl, sym, ap, ap₂, _∙_}
-use mathlib.Core.Bool.{cond}
 use mathlib.Core.List.{List, [], _∷_, _++_, map, flatten, append-nil}
-use Prim.Native.Nat.{ℕ, suc, _+_, _-_, _*_, _<_}
+use Prim.Native.Nat.{ℕ, _+_, _-_, _*_, _<_}
 use native.Mathlib.Omega.{arith}
-use lib.Dec.{eqb}
-use lib.ListN.{length, getD, drop, length-drop, length-map}
-use Rattle.words.specs.Words.{wordAt, wordsAt}
-use Rattle.layouts.specs.Tables.{Rule, first, leader, sets, offsets, joined, coverage, single, ruleWords, setWords, ligatureOf, ligature}
+use lib.ListN.{length, getD, drop, length-map}
+use Rattle.words.specs.Words.{wordsAt}
+use Rattle.layouts.specs.Tables.{Rule, first, leader, sets, offsets, joined, single, ruleWords, setWords, ligatureOf, ligature}
 use Rattle.layouts.specs.Lookups.{rules}
 use Rattle.layouts.proofs.SetLaws.{Wide, Grouped, grouped}
 use Rattle.layouts.proofs.SizeLaws.{length-offsets}
 use Rattle.scanning.proofs.GroupLaws.{Alike, Led, led-sets, flatten-sets}
-use Rattle.fidelity.specs.Followed.{subtableAt, coverageAt, pairsFrom, ruleAt, rulesFrom, setAt, setsFrom, followed}
+use Rattle.fidelity.specs.Followed.{pairsFrom, ruleAt, rulesFrom, setAt, setsFrom, followed}
 use Rattle.fidelity.proofs.StandLaws.{Stands, stands-head, stands-append, Laid, laid, coverage-at}
 
 -- words stand at a byte, however it is reckoned

@@ -1,17 +1,16 @@
 -- What an answer of the reader says: it is known by it (`same-answer`); with which number, and what of a lookup that was read (`list-said`, `same-kind`, `said-found`).
 -- Assumes nothing.
 use mathlib.Core.Path.{_≡_, refl, sym, ap, ap₂, _∙_}
-use mathlib.Core.List.{List, [], _++_}
+use mathlib.Core.List.{[]}
 use Prim.Native.Nat.{ℕ, _*_}
 use native.Mathlib.Omega.{arith}
 use lib.ListN.{length, take, drop}
 use lib.Seq.{take-at}
 use Rattle.refusals.specs.declared.Verdict.the-variants.{Refused}
-use Rattle.refusals.specs.Numbers.{numberOf}
 use Rattle.refusals.proofs.VerdictLaws.{same-said, refused-number}
 use Rattle.layouts.specs.declared.Kind.{Kind}
 use Rattle.layouts.specs.declared.Kind.the-variants.{Single, Ligature}
-use Rattle.layouts.specs.Lookups.{Lookup, lookupOf, width}
+use Rattle.layouts.specs.Lookups.{Lookup, width}
 use Rattle.reading.specs.declared.Answer.{Answer}
 use Rattle.reading.specs.declared.Lookup as said
 use Rattle.reading.specs.declared.Answer.the-variants.{Read}

@@ -1,13 +1,13 @@
 -- The promises of writing a lookup hold.
 -- Assumes nothing.
 use mathlib.Core.Path.{_≡_, refl, sym, ap, ap₂, _∙_}
-use mathlib.Core.Bool.{Bool, true, false, cond}
+use mathlib.Core.Bool.{Bool, true, false}
 use mathlib.Core.Logic.{_⊎_, inl, inr}
 use mathlib.Core.List.{List, [], _∷_, _++_, map}
-use Prim.Native.Nat.{ℕ, zero, suc, _+_, _*_, _<_, _≤_}
+use Prim.Native.Nat.{ℕ, zero, suc, _+_, _*_, _<_}
 use native.Mathlib.Omega.{arith}
-use borrow.Author.Tests.{le-leb, lt-leb, leb-true, leb-false, ltb-true, ltb-false}
-use lib.Dec.{eqb, ltb, leb}
+use borrow.Author.Tests.{lt-leb, leb-false, ltb-true, ltb-false}
+use lib.Dec.{ltb, leb}
 use lib.ListN.{length, drop, length-map}
 use Rattle.refusals.proofs.LeftLaws.{left-number, left-stays, left-accepted, left-smallest}
 use Rattle.words.specs.Words.{bytes, wordsAt}
@@ -16,7 +16,7 @@ use Rattle.layouts.specs.declared.Kind.{Kind}
 use Rattle.layouts.specs.declared.Kind.the-variants.{Single, Ligature}
 use Rattle.layouts.specs.declared.Written.{Written}
 use Rattle.layouts.specs.Tables.{Rule, first, leader, sets, ligature}
-use Rattle.layouts.specs.Lookups.{Lookup, lookupOf, width, known, rules, laidOut, wordsOf, firstsIn, firsts, fits}
+use Rattle.layouts.specs.Lookups.{Lookup, lookupOf, width, known, rules, laidOut, wordsOf, firstsIn, fits}
 use Rattle.layouts.specs.Written.{Outcome, outcome, rowsOf, writeRefusal, numberSaid, lengthSaid, Writing}
 use Rattle.layouts.proofs.FitLaws.{fits-lent}
 use Rattle.layouts.proofs.SetLaws.{wide-rules}
@@ -28,7 +28,7 @@ use Rattle.scanning.proofs.ExactLaws.{two-or-three}
 use Rattle.reading.specs.Read.{typeOf}
 use Rattle.demands.specs.Stretching.{Past}
 use Rattle.fidelity.specs.Followed.{coverageAt, followed}
-use Rattle.fidelity.specs.Writing.{OneAnswer, RefusedStays, SmallestNumber, PastTheAnswer, changes, sizeOf, Size, Lent, Even, OffsetFrom, SingleLimit, OneSetLimit, LoneRuleLimit, formatOf, Headed, coveredIn, Covered, EveryOffset}
+use Rattle.fidelity.specs.Writing.{OneAnswer, RefusedStays, SmallestNumber, PastTheAnswer, changes, sizeOf, Size, Lent, Even, OffsetFrom, mostSingle, SingleLimit, mostInSet, OneSetLimit, mostAlone, LoneRuleLimit, formatOf, Headed, coveredIn, Covered, EveryOffset}
 use Rattle.fidelity.proofs.PastLaws.{past-same, past-front}
 use Rattle.fidelity.proofs.ChangeLaws.{leaders-changes, length-changes}
 use Rattle.fidelity.proofs.StandLaws.{Stands, stands-bytes, Laid, coverage-at}
@@ -134,7 +134,7 @@ offset-from l most even named fit area r left x = (on, back)
 
 pub single-limit : SingleLimit
 single-limit flags glyphs substitutes lent even =
-    offset-from (lookupOf flags Single glyphs substitutes) 32764 even refl
+    offset-from (lookupOf flags Single glyphs substitutes) mostSingle even refl
     (single-fits flags glyphs substitutes (lent .flag) (fits-lent glyphs (lent .glyph)) (fits-lent substitutes (lent .substitute)) (omega arith))
 
 module _ (flags n : ℕ) (components ligatures : List ℕ) (named : known (Ligature n) ≡ true) (lent : Lent (lookupOf flags (Ligature n) components ligatures)) (even : length components ≡ length ligatures * n) where
@@ -148,17 +148,17 @@ module _ (flags n : ℕ) (components ligatures : List ℕ) (named : known (Ligat
   regular : Regular n rs
   regular = regular-rules n components ligatures (small (two-or-three n named)) even (fits-lent components (lent .glyph)) (fits-lent ligatures (lent .substitute))
 
-  one-set : length (changes (map first rs)) ≡ 1 → OffsetFrom (cond (eqb n 2) 8192 6554) (lookupOf flags (Ligature n) components ligatures)
+  one-set : length (changes (map first rs)) ≡ 1 → OffsetFrom (mostInSet n) (lookupOf flags (Ligature n) components ligatures)
   one-set e =
       let c = two-or-three n named in
-      offset-from (lookupOf flags (Ligature n) components ligatures) (cond (eqb n 2) 8192 6554) even named
+      offset-from (lookupOf flags (Ligature n) components ligatures) (mostInSet n) even named
       (one-set-fits flags n rs (low n c) (lent .flag) regular (sym (length-changes rs) ∙ e)
       ∙ rw (length-rules n components ligatures) (one-set-most n (length ligatures) c))
 
-  lone-rules : changes (map first rs) ≡ map first rs → OffsetFrom (cond (eqb n 2) 4681 4096) (lookupOf flags (Ligature n) components ligatures)
+  lone-rules : changes (map first rs) ≡ map first rs → OffsetFrom (mostAlone n) (lookupOf flags (Ligature n) components ligatures)
   lone-rules e =
       let c = two-or-three n named in
-      offset-from (lookupOf flags (Ligature n) components ligatures) (cond (eqb n 2) 4681 4096) even named
+      offset-from (lookupOf flags (Ligature n) components ligatures) (mostAlone n) even named
       (lone-rules-fit flags n rs (low n c) (lent .flag) regular (sym (length-changes rs) ∙ ap length e ∙ length-map rs first)
       ∙ rw (length-rules n components ligatures) (lone-rules-most n (length ligatures) c))
 

@@ -1,5 +1,5 @@
 -- What writing a lookup promises, of every lookup of either kind, by the calls' statement (`Writing` of crate layouts): `OneAnswer`, `RefusedStays`, `SmallestNumber`, `PastTheAnswer`; `behind`, `changes` the numbers that differ from the one before; `sizeOf`, `Size` how many bytes;
--- `Lent`, `Even`, `OffsetFrom` what the limits are said of, `SingleLimit`, `OneSetLimit`, `LoneRuleLimit` from which number on 5 is given; `formatOf`, `Headed`, `covered`, `Covered`, `EveryOffset` what is found by following the offsets that were written.
+-- `Lent`, `Even`, `OffsetFrom` what the limits are said of, `mostSingle`, `SingleLimit`, `mostInSet`, `OneSetLimit`, `mostAlone`, `LoneRuleLimit` from which number on 5 is given; `formatOf`, `Headed`, `coveredIn`, `covered`, `Covered`, `EveryOffset` what is found by following the offsets that were written.
 -- Assumes nothing.
 use mathlib.Core.Path.{_≡_}
 use mathlib.Core.Bool.{true, cond}
@@ -75,22 +75,34 @@ abbrev pub OffsetFrom : ℕ → Lookup → Type 0
 OffsetFrom most l = (area : List ℕ) (r : Written) (left : List ℕ) → Writing l area r left → (numberSaid r ≡ 5) ↔ (most < length (l .substitutes))
 
 -- "n = 32,764 is written, 32,765 refused (5)"
+abbrev pub mostSingle : ℕ
+mostSingle = 32764
+
+-- Of a single lookup.
 abbrev pub SingleLimit : Type 0
-SingleLimit = (flags : ℕ) (glyphs substitutes : List ℕ) → Lent (lookupOf flags Single glyphs substitutes) → Even (lookupOf flags Single glyphs substitutes) → OffsetFrom 32764 (lookupOf flags Single glyphs substitutes)
+SingleLimit = (flags : ℕ) (glyphs substitutes : List ℕ) → Lent (lookupOf flags Single glyphs substitutes) → Even (lookupOf flags Single glyphs substitutes) → OffsetFrom mostSingle (lookupOf flags Single glyphs substitutes)
 
 -- "One set holds 8,192 rules for N = 2 (8,193: refusal 5), 6,554 for N = 3 (6,555: 5)"
+abbrev pub mostInSet : ℕ → ℕ
+mostInSet n = cond (eqb n 2) 8192 6554
+
+-- Of a ligature lookup whose rules are one set.
 abbrev pub OneSetLimit : Type 0
 OneSetLimit =
     (flags n : ℕ) (components ligatures : List ℕ) → known (Ligature n) ≡ true → Lent (lookupOf flags (Ligature n) components ligatures) → Even (lookupOf flags (Ligature n) components ligatures)
     → length (changes (firsts (lookupOf flags (Ligature n) components ligatures))) ≡ 1
-    → OffsetFrom (cond (eqb n 2) 8192 6554) (lookupOf flags (Ligature n) components ligatures)
+    → OffsetFrom (mostInSet n) (lookupOf flags (Ligature n) components ligatures)
 
 -- "Sets of one rule with N = 2: 4,681 fit, 4,682 do not"; with N = 3, 4,096 fit
+abbrev pub mostAlone : ℕ → ℕ
+mostAlone n = cond (eqb n 2) 4681 4096
+
+-- Of a ligature lookup each of whose rules is a set of its own.
 abbrev pub LoneRuleLimit : Type 0
 LoneRuleLimit =
     (flags n : ℕ) (components ligatures : List ℕ) → known (Ligature n) ≡ true → Lent (lookupOf flags (Ligature n) components ligatures) → Even (lookupOf flags (Ligature n) components ligatures)
     → changes (firsts (lookupOf flags (Ligature n) components ligatures)) ≡ firsts (lookupOf flags (Ligature n) components ligatures)
-    → OffsetFrom (cond (eqb n 2) 4681 4096) (lookupOf flags (Ligature n) components ligatures)
+    → OffsetFrom (mostAlone n) (lookupOf flags (Ligature n) components ligatures)
 
 -- ---- what is found in the bytes
 abbrev pub formatOf : Kind → ℕ

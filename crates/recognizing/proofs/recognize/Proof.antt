@@ -13,7 +13,7 @@ use Rattle.recognizing.proofs.ligature.Reads as ligature-reads
 use Rattle.recognizing.proofs.single.Reads as single-reads
 
 returns : tie.Need-returns
-returns c = read-odd (c .before .before .args .bytes .now) (c .if1 .taken)
+returns c = read-odd (c .before .before .args .bytes .now) (λ e. omega (arith, e, c .if1 .taken))
 
 single-requires : tie.Need-single-requires
 single-requires c κs = search needs

@@ -5,7 +5,7 @@ use mathlib.Core.List.{List, [], _∷_, _++_, map, flatten, append-nil}
 use Prim.Native.Nat.{ℕ, _+_, _-_, _*_, _<_}
 use native.Mathlib.Omega.{arith}
 use lib.ListN.{length, getD, drop, length-map}
-use Rattle.words.specs.Words.{wordsAt}
+use Rattle.words.specs.Words.{wordAt, wordsAt}
 use Rattle.layouts.specs.Tables.{Rule, first, leader, sets, offsets, joined, single, ruleWords, setWords, ligatureOf, ligature}
 use Rattle.layouts.specs.Lookups.{rules}
 use Rattle.layouts.proofs.SetLaws.{Wide, Grouped, grouped}
@@ -60,8 +60,9 @@ module _ (b : List ℕ) (n : ℕ) (low : 0 < n) where
       let size : ℕ = 2 * length (ruleWords n r) in
       let h = stands-head b o f (offsets (f + size) (map (ruleWords n) set)) x in
       let k = stands-append b (q + f) (ruleWords n r) (joined (map (ruleWords n) set)) y in
-      rw (h .0, ← a .0, rule-followed r (q + f) (w .0) (k .0))
-      (ap (λ (l : List Rule). r ∷ l) (rw (a .0) (rules-followed lead q set (o + 2) (f + size) (w .1) (a .1) (h .1) (moved b _ _ _ (place q f size) (k .1)))))
+      let found : ruleAt b lead (q + wordAt b o) ≡ r = rw (h .0, ← a .0) (rule-followed r (q + f) (w .0) (k .0)) in
+      ap₂ (λ (here : Rule) (others : List Rule). here ∷ others) found
+      (rules-followed lead q set (o + 2) (f + size) (w .1) (a .1) (h .1) (moved b _ _ _ (place q f size) (k .1)))
     where
       place : (q f s : ℕ) → q + f + s ≡ q + (f + s)
       place q f s = omega arith
@@ -90,8 +91,9 @@ module _ (b : List ℕ) (n : ℕ) (low : 0 < n) where
       let h = stands-head b g (leader set) (map leader gs) x in
       let i = stands-head b o f (offsets (f + size) (map (setWords n) gs)) y in
       let k = stands-append b (t + f) (setWords n set) (joined (map (setWords n) gs)) z in
-      rw (h .0, i .0, set-followed (t + f) set (w .1) (a .1) (k .0))
-      (ap (λ (l : List Rule). set ++ l) (sets-followed t gs (g + 2) (o + 2) (f + size) (w .2) (a .2) (h .1) (i .1) (moved b _ _ _ (place t f size) (k .1))))
+      let found : setAt b (wordAt b g) (t + wordAt b o) ≡ set = rw (h .0, i .0) (set-followed (t + f) set (w .1) (a .1) (k .0)) in
+      ap₂ (λ (here others : List Rule). here ++ others) found
+      (sets-followed t gs (g + 2) (o + 2) (f + size) (w .2) (a .2) (h .1) (i .1) (moved b _ _ _ (place t f size) (k .1)))
     where
       place : (q f s : ℕ) → q + f + s ≡ q + (f + s)
       place q f s = omega arith

@@ -1,7 +1,6 @@
 -- What an answer of the reader says: it is known by it (`same-answer`); with which number, and what of a lookup that was read (`list-said`, `same-kind`, `said-found`).
 -- Assumes nothing.
 use mathlib.Core.Path.{_≡_, refl, sym, ap, ap₂, _∙_}
-use mathlib.Core.List.{[]}
 use Prim.Native.Nat.{ℕ, _*_}
 use native.Mathlib.Omega.{arith}
 use lib.ListN.{length, take, drop}

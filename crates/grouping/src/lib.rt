@@ -1,4 +1,4 @@
-// Grouping: the sets of a ligature lookup, word by word: where they begin, and their rules.
+// Grouping: the sets of a ligature lookup, word by word: where they begin, and their rules. Bounds such as 1,048,576 only say that no sum overflows: they are met with much to spare.
 ghost use mathlib.Core.Path.{_≡_};
 ghost use Prim.Native.Nat.{_+_, _*_, _<_, _≤_};
 ghost use lib.ListN.{length};

@@ -4,5 +4,4 @@ pub mod FitLaws
 pub mod SetLaws
 pub mod SizeLaws
 pub mod LimitLaws
-pub mod LimitExamples
 pub mod WrittenLaws

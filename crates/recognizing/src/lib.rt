@@ -34,6 +34,7 @@ fn begun(kind: u16, format: u16, most: usize, bytes: &[u8]) -> Scanned
 fn single(bytes: &[u8]) -> Scanned
     ensures { λ r. ⌜ SingleTaken (now (bytes .entry)) r × Opened r (now (bytes .entry)) ⌝ }
 {
+    // as many as a single lookup can have
     let start = begun(1, 2, 32764, bytes);
     let Scanned::At(p) = start else {
         return start;
@@ -51,6 +52,7 @@ fn ligature(n: usize, bytes: &[u8]) -> Scanned
     requires { ⌜ (2 ≤ n) × (n ≤ 3) ⌝ }
     ensures { λ r. ⌜ LigatureTaken n (now (bytes .entry)) r × Opened r (now (bytes .entry)) ⌝ }
 {
+    // as many sets of one rule as can begin at bytes of 16 bits
     let start = begun(4, 1, (65531 + 2 * n) / (10 + 2 * n), bytes);
     let Scanned::At(p) = start else {
         return start;

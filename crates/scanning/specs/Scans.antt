@@ -7,7 +7,7 @@ use lib.Dec.{eqb, leb, ltb}
 use lib.ListN.{length}
 use Rattle.layouts.specs.Lookups.{Lookup}
 
--- every word can stand, and they say this lookup; a word cannot stand, and so many words are left, it among them; the words end too soon
+-- every word can stand, and they say this lookup; a word cannot stand, and so many words are left, it among them (0 where a single byte is left over); the words end too soon
 pub data Scan : Type 0 where
   fine : Lookup → Scan
   wrong : (left : ℕ) → Scan

@@ -5,7 +5,7 @@ ghost use Rattle.layouts.specs.Written.{Writing};
 use layouts::Written;
 use refusals::Refusal;
 
-// Glyphs of a single lookup, at most: the coverage behind them begins at a byte of 16 bits.
+// Substitutes of a single lookup, at most: the coverage begins behind them, at a byte of 16 bits.
 const SINGLE_LIMIT: usize = 32764;
 
 // Writes the lookup that puts each substitute in the place of its glyph at the start of `area`; says how many bytes it has.

@@ -1,9 +1,9 @@
 -- The parts of which lookups are made, by their next word: certain words (`these-short`, `these-wrong`, `these-more`, `these-none`), several of any value (`several-short`, `several-taken`), glyphs that rise (`scaled`, `next-sum`, `rise-test`, `rise-short`, `rise-wrong`, `rise-more`, `rise-none`).
 -- Assumes nothing.
-use mathlib.Core.Path.{_≡_, refl, sym, ap, _∙_}
+use mathlib.Core.Path.{_≡_, refl, sym}
 use mathlib.Core.Bool.{Bool, true, false, _&&_, _||_}
 use mathlib.Core.List.{List, [], _∷_}
-use Prim.Native.Nat.{ℕ, zero, suc, _+_, _-_, _*_, _/_, _≤_, _<_}
+use Prim.Native.Nat.{ℕ, zero, suc, _+_, _-_, _*_, _≤_, _<_}
 use native.Mathlib.Omega.{arith}
 use native.Mathlib.Nat.{mul-le-mul-right}
 use borrow.Author.Tests.{eq-eqb, ne-eqb, le-leb, lt-leb, lt-ltb, le-ltb, ltb-true, ltb-false}
@@ -11,7 +11,7 @@ use lib.Dec.{eqb, leb, ltb}
 use lib.ListN.{length}
 use Rattle.laws.proofs.TestLaws.{and-false}
 use Rattle.words.specs.Words.{wordAt, wordsAt}
-use Rattle.scanning.specs.Scans.{Rest, any, exactly, several, rise}
+use Rattle.scanning.specs.Scans.{any, exactly, several, rise}
 use Rattle.accepting.specs.declared.Scanned.{Scanned}
 use Rattle.accepting.specs.declared.Scanned.the-variants.{At, Wrong, Short}
 use Rattle.accepting.specs.Scanned.{after, Took, these}

@@ -1,10 +1,10 @@
 -- Parts of a lookup taken from bytes. One word: the bytes end, it cannot stand, or the scan goes on behind it (`next-short`, `next-wrong`, `next-right`). Parts: where one stops, so does what begins with it (`took-else`); where one is taken, what follows it is taken behind it (`took-then`), and it ended at a place in the bytes (`took-place`); a value may be made of what a part says (`took-map`, `took-these`), an end said in other words (`took-end`); a part that begins with one word (`one-short`, `one-wrong`, `one-right`); a loop over parts (`Leads`).
 -- Assumes nothing.
-use mathlib.Core.Path.{_≡_, refl, sym, ap, subst, _∙_}
+use mathlib.Core.Path.{_≡_, refl, ap, subst, _∙_}
 use mathlib.Core.Bool.{Bool, true, false}
 use mathlib.Core.List.{List, [], _∷_}
 use mathlib.Core.Logic.{⊎-elim}
-use Prim.Native.Nat.{ℕ, suc, _+_, _-_, _*_, _/_, _≤_, _<_}
+use Prim.Native.Nat.{ℕ, suc, _+_, _-_, _/_, _≤_, _<_}
 use native.Mathlib.Omega.{arith}
 use lib.ListN.{length}
 use types.Run.{OneOf}

@@ -1,8 +1,8 @@
 -- What scanning a part of a lookup in bytes answers: `from` the words from a place on; `after` how the scan of these goes on; `Took` that a part was taken, said a value and ended at a place, or stopped; `these` the part that is certain words; `Counts` what is known of a count that was taken.
 -- Assumes nothing.
 use mathlib.Core.Path.{_≡_}
-use mathlib.Core.List.{List, []}
-use Prim.Native.Nat.{ℕ, _+_, _-_, _*_, _/_, _≤_}
+use mathlib.Core.List.{List}
+use Prim.Native.Nat.{ℕ, _-_, _/_, _≤_}
 use lib.ListN.{length}
 use Rattle.words.specs.Words.{wordsAt}
 use Rattle.scanning.specs.Scans.{Scan, Rest, wrong, short, exactly}

@@ -1,6 +1,4 @@
 // Accepting: whether bytes are a lookup, word by word. Each function takes a part of a lookup from a place on, and says where it ends, or which word cannot stand.
-ghost use mathlib.Core.Path.{_≡_};
-ghost use mathlib.Core.List.{_∷_, []};
 ghost use Prim.Native.Nat.{_+_, _-_, _*_, _/_, _<_, _≤_};
 ghost use lib.ListN.{length};
 ghost use Rattle.words.specs.Words.{wordAt, wordsAt};

@@ -11,8 +11,12 @@ use Rattle.runs.specs.Records.{listed, lineOf}
 use Rattle.runs.specs.Runs.{tileAction, wordNumbers, sum, room, repeatingWidth, tiles}
 use Rattle.runs.specs.Stretched.{inOrder, pieces, runPieces, next, moved, offsetAt, placed, placedRun, worked, stretched}
 use Rattle.stretching.specs.Stretching.{stretchRefusal}
+use Rattle.words.specs.Words.{bytes}
+use Rattle.layouts.specs.Tables.{single}
+use Rattle.layouts.specs.Lookups.{fits}
+use Rattle.layouts.specs.Written.{writeRefusal}
 use Rattle.demands.specs.Examples.{Starred}
 
 pub starred : Starred
-unfolding form modifier smaller moves passes ranges reorderRefusal clamped satAdd satSub count whole added copies excess squeezed overlap start listed lineOf tileAction wordNumbers sum room repeatingWidth tiles inOrder pieces runPieces next moved offsetAt placed placedRun worked stretched stretchRefusal
-starred = (refl, (refl, (refl, (refl, (refl, (refl, (refl, (refl, (refl, (refl, (refl, (refl, (refl, (refl, (refl, tt)))))))))))))))
+unfolding form modifier smaller moves passes ranges reorderRefusal clamped satAdd satSub count whole added copies excess squeezed overlap start listed lineOf tileAction wordNumbers sum room repeatingWidth tiles inOrder pieces runPieces next moved offsetAt placed placedRun worked stretched stretchRefusal bytes single fits writeRefusal
+starred = (refl, (refl, (refl, (refl, (refl, (refl, (refl, (refl, (refl, (refl, (refl, (refl, (refl, (refl, (refl, (refl, tt))))))))))))))))

@@ -15,19 +15,24 @@ use Rattle.marks.specs.Passes.{Span, Over}
 use Rattle.marks.specs.Reordered.{Request, Columns, requestOf, columnsOf, outcome, reorderAfter}
 use Rattle.runs.specs.Records as line
 use Rattle.stretching.specs.Stretching as stretching
+use Rattle.layouts.specs.declared.Kind.the-variants.{Single}
+use Rattle.layouts.specs.Lookups.{Lookup, lookupOf}
+use Rattle.layouts.specs.Written as writing
 
 -- joining: the types of the pre-context, the line and the post-context, and the line's actions; reordering of marks: the request, the columns before, the
--- ranges, and the columns after; stretching: the request, with the line, the output before, how many records the answer says, and the output after
+-- ranges, and the columns after; stretching: the request, with the line, the output before, how many records the answer says, and the output after; writing: the lookup, the area before, how many bytes the answer says, and the area after
 pub data Example : Type 0 where
   Joins : (pre line post : List ℕ) → (actions : List ℕ) → Example
   Reorders : (asked : Request) → (before : Columns) → (ranges : List Span) → (after : Columns) → Example
   Stretches : (asked : stretching.Request) → (before : line.Columns) → (count : ℕ) → (after : line.Columns) → Example
+  Writes : (asked : Lookup) → (before : List ℕ) → (count : ℕ) → (after : List ℕ) → Example
 
--- an example of reordering, and of stretching, is of the whole call, which accepts it
+-- an example of reordering, of stretching and of writing is of the whole call, which accepts it
 abbrev pub Gives : Example → Type 0
 Gives (Joins pre line post actions) = actionsOf pre line post ≡ actions
 Gives (Reorders asked before ranges after) = reorderAfter asked before ≡ After 0 (outcome ranges after)
 Gives (Stretches asked before count after) = stretching.stretchAfter stretching.stretchedLimit asked before ≡ After 0 (stretching.outcome count after)
+Gives (Writes asked before count after) = writing.writeAfter asked before ≡ After 0 (writing.outcome count after)
 
 abbrev pub Each : List Example → Type 0
 Each [] = Unit
@@ -121,6 +126,12 @@ examples =
     (none ∷ repeating ∷ repeating ∷ isol ∷ [])
     (pos 10 ∷ pos 0 ∷ pos 0 ∷ pos 99 ∷ [])
     (pos 0 ∷ negsuc 4 ∷ pos 0 ∷ pos 99 ∷ [])) ∷
+    -- single (5, 7), flags 8: 0001 0008 0001 0008 0002 0008 0001 0007 0001 0001 0005. The area has two bytes more, which stay
+    Writes
+    (lookupOf 8 Single (5 ∷ []) (7 ∷ []))
+    (99 ∷ 99 ∷ 99 ∷ 99 ∷ 99 ∷ 99 ∷ 99 ∷ 99 ∷ 99 ∷ 99 ∷ 99 ∷ 99 ∷ 99 ∷ 99 ∷ 99 ∷ 99 ∷ 99 ∷ 99 ∷ 99 ∷ 99 ∷ 99 ∷ 99 ∷ 99 ∷ 99 ∷ [])
+    22
+    (0 ∷ 1 ∷ 0 ∷ 8 ∷ 0 ∷ 1 ∷ 0 ∷ 8 ∷ 0 ∷ 2 ∷ 0 ∷ 8 ∷ 0 ∷ 1 ∷ 0 ∷ 7 ∷ 0 ∷ 1 ∷ 0 ∷ 1 ∷ 0 ∷ 5 ∷ 99 ∷ 99 ∷ []) ∷
     []
 
 abbrev pub Starred : Type 0

@@ -1,15 +1,15 @@
 -- The rules that bytes hold: how many they are, and their components (`length-rules`, `length-flat`); those of two lists (`flat-append`, `ligatures-append`); the sets' rules, by the next set (`sets-next`), how many they are by where they end (`end-is`), and that their end is behind their beginning.
 -- Assumes nothing.
 use mathlib.Core.Path.{_≡_, refl, sym, ap, _∙_}
-use mathlib.Core.List.{List, [], _∷_, _++_, map, map-append, append-assoc}
-use Prim.Native.Nat.{ℕ, zero, suc, _+_, _-_, _*_, _≤_, _<_}
+use mathlib.Core.List.{List, [], _∷_, _++_, append-assoc}
+use Prim.Native.Nat.{ℕ, zero, suc, _+_, _-_, _*_, _<_}
 use native.Mathlib.Nat.{zero-mul}
 use native.Mathlib.Omega.{arith}
-use lib.ListN.{length, length-append, length-map}
+use lib.ListN.{length, length-append}
 use Rattle.words.specs.Words.{wordAt, wordsAt}
 use Rattle.words.proofs.WordLaws.{length-words}
 use Rattle.layouts.specs.Tables.{Rule}
-use Rattle.scanning.specs.Grammar.{setSize, flat, ligaturesOf}
+use Rattle.scanning.specs.Grammar.{setSize, flat}
 use Rattle.grouping.specs.Grouped.{ruleAt, rulesAt, setsAt, endAt}
 
 pub flat-append : (a b : List Rule) → flat (a ++ b) ≡ flat a ++ flat b

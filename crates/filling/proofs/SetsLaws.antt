@@ -1,8 +1,8 @@
 -- The loop over the sets: what it knows before each of them (`Filling`), at the beginning (`filling-begins`), that there is room for the next (`filling-fits`), from one to the next (`filling-next`), and at the end (`filling-ends`).
 -- Assumes nothing.
 use mathlib.Core.Path.{_≡_, refl, sym, ap, _∙_}
-use mathlib.Core.List.{List, [], _∷_, _++_, map, map-append}
-use Prim.Native.Nat.{ℕ, suc, _+_, _-_, _*_, _≤_, _<_}
+use mathlib.Core.List.{List, _++_, map-append}
+use Prim.Native.Nat.{ℕ, _+_, _-_, _*_, _≤_, _<_}
 use native.Mathlib.Omega.{arith}
 use lib.ListN.{length, length-append, length-map}
 use Rattle.laws.specs.Lists.{pasted}

@@ -8,7 +8,7 @@ use native.Mathlib.Nat.{mul-le-mul}
 use native.Mathlib.Omega.{arith}
 use lib.ListN.{length}
 use Rattle.words.specs.Words.{wordAt, wordsAt}
-use Rattle.scanning.specs.Grammar.{setSize, grouped, settled}
+use Rattle.scanning.specs.Grammar.{setSize, settled}
 use Rattle.accepting.specs.declared.Scanned.{Scanned}
 use Rattle.accepting.specs.declared.Scanned.the-variants.{At, Wrong, Short}
 use Rattle.accepting.specs.Scanned.{Took}

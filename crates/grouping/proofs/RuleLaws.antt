@@ -1,6 +1,6 @@
 -- Rules, by the next of them: where they begin (`evenly-next`, `more`, `steps-fit`); one rule (`rule-stops`, `rule-number`, `rule-taken`); rules behind each other (`rules-stops`, `rules-more`, `rules-none`); a set (`set-stops`, `set-taken`).
 -- Assumes nothing.
-use mathlib.Core.Path.{_≡_, refl, sym, ap, _∙_}
+use mathlib.Core.Path.{_≡_, ap}
 use mathlib.Core.List.{List, [], _∷_}
 use Prim.Native.Nat.{ℕ, zero, suc, _+_, _-_, _*_, _≤_, _<_}
 use native.Mathlib.Nat.{mul-le-mul-left}
@@ -8,10 +8,10 @@ use native.Mathlib.Omega.{arith}
 use lib.ListN.{length, getD}
 use Rattle.words.specs.Words.{wordAt, wordsAt}
 use Rattle.layouts.specs.Tables.{Rule, evenly}
-use Rattle.scanning.specs.Scans.{Rest, next, any, exactly, several}
+use Rattle.scanning.specs.Scans.{Rest, exactly, several}
 use Rattle.scanning.specs.Grammar.{ruled, grouped}
 use Rattle.accepting.specs.declared.Scanned.{Scanned}
-use Rattle.accepting.specs.declared.Scanned.the-variants.{At, Wrong, Short}
+use Rattle.accepting.specs.declared.Scanned.the-variants.{At}
 use Rattle.accepting.specs.Scanned.{Took, these}
 use Rattle.accepting.proofs.TookLaws.{took-else, took-then, took-place, took-end, took-none, took-map}
 use Rattle.accepting.proofs.SeriesLaws.{Stopped}

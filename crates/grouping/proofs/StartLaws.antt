@@ -1,15 +1,15 @@
 -- Where the sets of a ligature lookup begin, by the next offset: what a set's size is (`size-small`, `size-is`); offsets behind another (`later-short`, `later-low`, `later-wrong`, `later-more`, `later-none`); all of them (`starts-none`, `starts-stops`, `starts-taken`).
 -- Assumes nothing.
-use mathlib.Core.Path.{_≡_, refl, sym, ap, _∙_}
+use mathlib.Core.Path.{_≡_, ap, _∙_}
 use mathlib.Core.Bool.{Bool, true, false, _&&_}
 use mathlib.Core.List.{List, [], _∷_}
 use Prim.Native.Nat.{ℕ, zero, suc, _+_, _-_, _*_, _/_, _≤_, _<_}
 use native.Mathlib.Nat.{le-div-iff-mul-le, div-mul-le-self, mul-le-mul-left}
 use native.Mathlib.Omega.{arith}
-use borrow.Author.Tests.{ne-eqb, le-leb, lt-leb, lt-ltb, eqb-true}
+use borrow.Author.Tests.{ne-eqb, le-leb}
 use lib.Dec.{eqb, leb, ltb}
 use lib.ListN.{length}
-use Rattle.laws.proofs.TestLaws.{and-true, and-false}
+use Rattle.laws.proofs.TestLaws.{and-true}
 use Rattle.words.specs.Words.{wordAt, wordsAt}
 use Rattle.scanning.specs.Scans.{Rest}
 use Rattle.scanning.specs.Grammar.{setSize, mostRules, isSize, later, starts}

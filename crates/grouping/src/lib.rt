@@ -1,7 +1,6 @@
 // Grouping: the sets of a ligature lookup, word by word: where they begin, and their rules.
 ghost use mathlib.Core.Path.{_≡_};
 ghost use Prim.Native.Nat.{_+_, _*_, _<_, _≤_};
-ghost use lib.Dec.{eqb, leb};
 ghost use lib.ListN.{length};
 ghost use Rattle.words.specs.Words.{wordsAt};
 ghost use Rattle.layouts.specs.Tables.{evenly};

@@ -1,10 +1,10 @@
 -- A lookup and its words: `Lookup`, `lookupOf` its flags, its kind and its list, as two columns; `width` how many glyphs a rule replaces; `known` which numbers of components there are; `rules` the rules of a ligature lookup; `laidOut`, `wordsOf` the lookup's words; `firstsIn`, `firsts` the first glyphs of its list; `fits` that numbers are of 16 bits.
 -- Assumes nothing.
-use mathlib.Core.Bool.{Bool, true, false, _&&_, _||_}
+use mathlib.Core.Bool.{Bool, true, _&&_, _||_}
 use mathlib.Core.List.{List, [], _∷_, map}
-use Prim.Native.Nat.{ℕ, _*_}
+use Prim.Native.Nat.{ℕ}
 use lib.Dec.{eqb, ltb}
-use lib.ListN.{length, take, drop}
+use lib.ListN.{take, drop}
 use Rattle.layouts.specs.declared.Kind.{Kind}
 use Rattle.layouts.specs.declared.Kind.the-variants.{Single, Ligature}
 use Rattle.layouts.specs.Tables.{Rule, first, single, ligature}

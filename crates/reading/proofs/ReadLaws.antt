@@ -1,16 +1,14 @@
 -- What the call answers: bytes that are no lookup (`no-lookup`), columns too short for one (`no-room`), and a lookup read (`read-whole`); how many rules a lookup has, by the number of its bytes (`single-count`, `ligature-count`); so a lookup of each kind (`single-place`, `single-room`, `single-read`; `ligature-place`, `rules-count`, `parts-count`, `ligature-room`, `ligature-read`); what the bytes were recognized as (`held-none`, `held-single`, `held-ligature`).
 -- Assumes nothing.
-use mathlib.Core.Path.{_≡_, refl, ap, subst, _∙_}
+use mathlib.Core.Path.{_≡_, refl, subst, _∙_}
 use mathlib.Core.Bool.{Bool, true, false, _||_}
-use mathlib.Core.List.{List, [], _∷_, _++_}
-use mathlib.Core.Logic.{_⊎_, inl, inr, ⊎-elim}
+use mathlib.Core.List.{List, _++_}
 use Prim.Native.Nat.{ℕ, suc, _+_, _-_, _*_, _/_, _≤_, _<_}
 use native.Mathlib.Nat.{le-div-iff-mul-le}
 use native.Mathlib.Omega.{arith}
 use borrow.Author.Tests.{ltb-true, ltb-false}
 use lib.Dec.{ltb}
 use lib.ListN.{length, drop, length-map}
-use Rattle.refusals.specs.Left.{After}
 use Rattle.refusals.specs.declared.Refusal.the-variants.{NoLookup, NoRoom}
 use Rattle.layouts.specs.declared.Kind.{Kind}
 use Rattle.layouts.specs.declared.Kind.the-variants.{Single, Ligature}
@@ -27,7 +25,7 @@ use Rattle.recognizing.specs.declared.Recognized.the-variants.{Nothing, As}
 use Rattle.recognizing.specs.Recognized.{countAt, rulesIn, lookupAt, endOf, Held, Recognizing}
 use Rattle.reading.specs.declared.Answer.{Answer}
 use Rattle.reading.specs.declared.Answer.the-variants.{Read, Refused}
-use Rattle.reading.specs.Read.{Columns, columns, Outcome, nothing, found, made, lacking, readRefusal, numberSaid, outcomeSaid, Reading}
+use Rattle.reading.specs.Read.{Columns, columns, found, readRefusal, numberSaid, outcomeSaid, Reading}
 
 -- ---- what the call answers
 module _ (b : List ℕ) (c : Columns) where

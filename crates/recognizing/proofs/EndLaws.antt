@@ -1,12 +1,11 @@
 -- Whether a scan came to the end of the bytes: what it says then (`scan-fine`), and if not (`scan-other`); the first of three kinds that is fine (`read-single`, `read-pairs`, `read-triples`), or none (`read-none`), and bytes of an odd number (`read-odd`); what is answered then (`single-held`, `single-other`, `ligature-held`, `ligature-other`).
 -- Assumes nothing.
-use mathlib.Core.Path.{_≡_, refl, sym, ap, subst, _∙_}
+use mathlib.Core.Path.{_≡_, refl, sym, ap, _∙_}
 use mathlib.Core.Bool.{true, false, false≢true}
-use mathlib.Core.List.{List, [], _∷_}
-use Prim.Native.Nat.{ℕ, zero, suc, _+_, _-_, _*_, _/_, _%_, _≤_, _<_}
+use mathlib.Core.List.{List, []}
+use Prim.Native.Nat.{ℕ, _+_, _-_, _/_, _%_, _≤_, _<_}
 use native.Mathlib.Omega.{arith}
 use borrow.Author.Tests.{ltb-true, ltb-false, ne-eqb, eq-eqb}
-use lib.Dec.{ltb}
 use lib.ListN.{length}
 use Rattle.words.specs.Words.{wordAt, wordsAt}
 use Rattle.words.proofs.WordLaws.{words-none, words-next}
@@ -16,7 +15,7 @@ use Rattle.scanning.specs.Scans.{Scan, Rest, fine, wrong, short, end, further}
 use Rattle.scanning.specs.Grammar.{singleScan, ligatureScan, scan, reading, leftOver}
 use Rattle.accepting.specs.declared.Scanned.{Scanned}
 use Rattle.accepting.specs.declared.Scanned.the-variants.{At, Wrong, Short}
-use Rattle.accepting.specs.Scanned.{from, after, stands, Took}
+use Rattle.accepting.specs.Scanned.{from, after, Took}
 use Rattle.recognizing.specs.Recognized.{lookupAt, Opened, singlePart, SingleTaken, ligaturePart, LigatureTaken, inside, endsIn, Held}
 
 -- nothing is read

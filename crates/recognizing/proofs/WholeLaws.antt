@@ -1,12 +1,11 @@
 -- Whole lookups, part behind part: what both kinds begin with (`begun-head`, `begun-format`, `begun-taken`, `counts-stopped`, `opened-stopped`, `opened-known`, `at-place`), a single lookup (`single-begins`, `single-stops`, `single-taken`), a ligature lookup (`most-small`, `sets-few`, `ligature-begins`, `ligature-starts`, `ligature-covered`, `ligature-taken`).
 -- Assumes nothing.
-use mathlib.Core.Path.{_≡_, refl, sym, ap, _∙_}
+use mathlib.Core.Path.{_≡_, refl, ap, _∙_}
 use mathlib.Core.List.{List, [], _∷_}
 use mathlib.Core.Logic.{⊎-elim}
 use Prim.Native.Nat.{ℕ, _+_, _-_, _*_, _/_, _≤_, _<_}
 use native.Mathlib.Nat.{div-mul-le-self, le-div-iff-mul-le, mul-le-mul-left}
 use native.Mathlib.Omega.{arith}
-use lib.ListN.{length}
 use denote.Enum.Declared.{tagOf}
 use Rattle.accepting.proofs.Scanned.{the-type}
 use Rattle.words.specs.Words.{wordAt, wordsAt}
@@ -20,7 +19,7 @@ use Rattle.accepting.specs.declared.Scanned.the-variants.{At, Wrong, Short}
 use Rattle.accepting.specs.Scanned.{Took, these, Counts}
 use Rattle.accepting.proofs.TookLaws.{took-else, took-then, took-place, took-end, took-map}
 use Rattle.accepting.proofs.SeriesLaws.{Stopped}
-use Rattle.grouping.specs.Grouped.{startsAt, setsAt, endAt, leadsAt, SetsTaken}
+use Rattle.grouping.specs.Grouped.{startsAt, leadsAt, SetsTaken}
 use Rattle.recognizing.specs.Recognized.{begun, countAt, Opened, lookupAt, endOf, SingleTaken, LigatureTaken}
 
 -- ---- what both kinds begin with

@@ -11,7 +11,7 @@ use Rattle.layouts.specs.declared.Kind.{Kind}
 use Rattle.layouts.specs.declared.Kind.the-variants.{Single, Ligature}
 use Rattle.layouts.specs.Tables.{Rule}
 use Rattle.layouts.specs.Lookups.{Lookup, lookupOf}
-use Rattle.scanning.specs.Scans.{Scan, Rest, fine, exactly, several}
+use Rattle.scanning.specs.Scans.{Rest, fine, exactly, several}
 use Rattle.scanning.specs.Grammar.{headed, counted, covered, mostSingle, mostSets, starts, settled, flat, ligaturesOf, reading}
 use Rattle.accepting.specs.declared.Scanned.{Scanned}
 use Rattle.accepting.specs.declared.Scanned.the-variants.{At, Wrong, Short}

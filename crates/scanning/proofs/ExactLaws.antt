@@ -1,4 +1,4 @@
--- Acceptance word by word is exact: what is written is accepted and reads as it was (`accepted-written`), and what is read was written (`read-is-written`); two lookups with the same words read alike (`read-alike`), and words are those of one lookup only that is as it reads (`written-once`). The same of bytes (`bytes-accepted`, `bytes-written`), and in one statement (`exact`).
+-- Acceptance word by word is exact: what is written is accepted and reads as it was (`accepted-written`), and what is read was written (`read-is-written`); two lookups with the same words read alike (`read-alike`), and words are those of one lookup only that is as it reads (`written-once`). The same of bytes (`bytes-accepted`, `bytes-written`), and in one statement (`exact`). A known component number is one of two (`two-or-three`).
 -- Assumes nothing.
 use mathlib.Core.Path.{_≡_, refl, sym, ap, _∙_}
 use mathlib.Core.Bool.{Bool, true, false, cond, not, _||_, false≢true}
@@ -68,7 +68,7 @@ none-accepted flags n fit =
     (rw (ligature-on 2 (omega arith) flags [] [] refl refl fit))
 
 -- "component number other than 2 or 3"
-two-or-three : (n : ℕ) → known (Ligature n) ≡ true → (n ≡ 2) ⊎ (n ≡ 3)
+pub two-or-three : (n : ℕ) → known (Ligature n) ≡ true → (n ≡ 2) ⊎ (n ≡ 3)
 two-or-three n e = go (eqb n 2) (eqb n 3) refl refl e
   where
     go : (a b : Bool) → eqb n 2 ≡ a → eqb n 3 ≡ b → (a || b) ≡ true → (n ≡ 2) ⊎ (n ≡ 3)

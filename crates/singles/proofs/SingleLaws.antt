@@ -1,7 +1,7 @@
 -- The call that writes a single lookup: when it is refused (`uneven-refused`, `long-refused`, `room-refused`), and that its four parts, one written behind the other, are the lookup (`parts-written`).
 -- Assumes nothing.
-use mathlib.Core.Path.{_≡_, refl, sym, ap, _∙_}
-use mathlib.Core.Bool.{true, false}
+use mathlib.Core.Path.{_≡_, refl, sym, _∙_}
+use mathlib.Core.Bool.{true}
 use mathlib.Core.List.{List, [], _∷_, _++_}
 use Prim.Native.Nat.{ℕ, _+_, _*_, _<_, _≤_}
 use native.Mathlib.Nat.{mul-one}

@@ -2,11 +2,9 @@
 -- Assumes nothing.
 use native.Mathlib.Omega.{arith}
 use borrow.Author.Needs.{needs}
-use Prim.Native.Nat.{_+_, _-_, _*_, _<_, _≤_}
+use Prim.Native.Nat.{_+_, _*_, _<_, _≤_}
 use lib.ListN.{length}
-use Rattle.words.specs.Words.{wordsAt}
-use Rattle.scanning.specs.Grammar.{setSize, flat}
-use Rattle.grouping.specs.Grouped.{setsAt}
+use Rattle.scanning.specs.Grammar.{setSize}
 use Rattle.filling.proofs.SetsLaws.{Filling, filling-begins, filling-reads, filling-fits, filling-next, filling-ends}
 use Rattle.filling.proofs.fill_sets.Statement.{statement}
 use Rattle.filling.proofs.fill_sets.Tie as tie

@@ -29,7 +29,10 @@ slice-aggregate-exactly : tie.Need-slice-aggregate-exactly
 slice-aggregate-exactly c = search needs
 
 exactly-requires : tie.Need-exactly-requires
-exactly-requires c κs = took-place _ _ (c .before .before .ligature .given .1) (c .before .before .before .before .several .ensures) .1
+exactly-requires c κs =
+    let s = c .before .before .before .before in
+    let place = took-place _ _ (c .before .before .ligature .given .1) (s .several .ensures) .1 in
+    omega (arith, place, s .before .before .pre .0)
 
 enum-known-number : tie.Need-enum-known-number
 enum-known-number c = c .match2 .keys1

@@ -3,7 +3,7 @@
 use native.Mathlib.Omega.{arith}
 use mathlib.Core.Path.{_≡_, ap}
 use Prim.Native.Nat.{_+_, _-_, _*_, _≤_}
-use lib.ListN.{length, take, drop, length-take, length-drop}
+use lib.ListN.{length, drop, length-take, length-drop}
 use Rattle.layouts.specs.Tables.{ruleWords}
 use Rattle.ligatures.specs.Places.{ruleAt}
 use Rattle.ligatures.proofs.PlaceLaws.{inside, rule-words, rule-written}

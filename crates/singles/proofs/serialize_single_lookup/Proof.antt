@@ -27,7 +27,7 @@ returns-2 : tie.Need-returns-2
 returns-2 c =
     let k = c .before .before in
     let a = k .before .before .before .args in
-    long-refused (a .flags) (a .glyphs .now) (a .substitutes .now) (a .area .now) (c .before .if1 .left) (omega arith) (glyphs-fit k) (substitutes-fit k) (c .if2 .taken)
+    long-refused (a .flags) (a .glyphs .now) (a .substitutes .now) (a .area .now) (c .before .if1 .left) (omega arith) (glyphs-fit k) (substitutes-fit k) (omega (arith, c .if2 .taken))
 
 mul-if3 : tie.Need-mul-if3
 mul-if3 c = search needs
@@ -39,7 +39,7 @@ returns-3 : tie.Need-returns-3
 returns-3 c =
     let k = c .before .before .before in
     let a = k .before .before .before .args in
-    room-refused (a .flags) (a .glyphs .now) (a .substitutes .now) (a .area .now) (c .before .before .if1 .left) (omega arith) (glyphs-fit k) (substitutes-fit k) (c .before .if2 .left) (c .if3 .taken)
+    room-refused (a .flags) (a .glyphs .now) (a .substitutes .now) (a .area .now) (c .before .before .if1 .left) (omega arith) (glyphs-fit k) (substitutes-fit k) (omega (arith, c .before .if2 .left)) (omega (arith, c .if3 .taken))
 
 cast-count : tie.Need-cast-count
 cast-count c = search needs

@@ -1,0 +1,10 @@
+-- Each promise, proved.
+-- Assumes nothing.
+pub mod PastLaws
+pub mod ChangeLaws
+pub mod StandLaws
+pub mod FollowLaws
+pub mod BoundLaws
+pub mod WritingHolds
+pub mod SaidLaws
+pub mod ReadingHolds

@@ -1,0 +1,234 @@
+-- The promises of reading a lookup back hold.
+-- Assumes nothing.
+use mathlib.Core.Path.{_≡_, refl, sym, ap, _∙_}
+use mathlib.Core.Bool.{Bool, true, false, cond}
+use mathlib.Core.List.{List, [], _∷_, _++_}
+use Prim.Native.Nat.{ℕ, zero, suc, _*_, _≤_}
+use native.Mathlib.Nat.{zero-mul}
+use native.Mathlib.Omega.{arith}
+use borrow.Author.Tests.{le-ltb, ltb-false}
+use lib.Dec.{ltb}
+use lib.ListN.{length, take, drop}
+use lib.Seq.{take-at}
+use Rattle.laws.specs.Rows.{first}
+use Rattle.laws.proofs.RowLaws.{first-none}
+use Rattle.laws.proofs.TestLaws.{neither}
+use Rattle.refusals.specs.Columns.{rising}
+use Rattle.refusals.proofs.LeftLaws.{alike, left-number, left-stays, left-accepted, left-smallest, left-done}
+use Rattle.words.specs.Words.{bytes}
+use Rattle.words.proofs.WordLaws.{length-bytes}
+use Rattle.layouts.specs.declared.Kind.{Kind}
+use Rattle.layouts.specs.declared.Kind.the-variants.{Single, Ligature}
+use Rattle.layouts.specs.declared.Written.{Written}
+use Rattle.layouts.specs.declared.Written.the-variants.{Bytes}
+use Rattle.layouts.specs.Tables.{sets, offsets, joined, ligatureOf, ligature}
+use Rattle.layouts.specs.Lookups.{Lookup, lookupOf, width, rules, wordsOf, firsts}
+use Rattle.layouts.specs.Written as write
+use Rattle.layouts.specs.Written.{outcome, writeRefusal, writeAfter, Writing}
+use Rattle.layouts.proofs.WrittenLaws.{one-written, Allowed, none-given}
+use Rattle.scanning.specs.Scans.{Scan, fine, wrong, short}
+use Rattle.scanning.specs.Grammar.{reading}
+use Rattle.scanning.specs.Exact.{kindRead, asRead, Readable}
+use Rattle.scanning.proofs.ExactLaws.{bytes-accepted, bytes-written}
+use Rattle.reading.specs.declared.Answer.{Answer}
+use Rattle.reading.specs.Read.{Columns, Outcome, nothing, found, lacking, made, rowsOf, readRefusal, numberSaid, outcomeSaid, readAfter, Reading}
+use Rattle.demands.specs.Stretching.{Past}
+use Rattle.fidelity.specs.Reading as promised
+use Rattle.fidelity.specs.Reading.{OneAnswer, RefusedStays, SmallestNumber, countSaid, glyphsSaid, PastTheAnswer, WriterGives, Accepts, lookupSaid, ReadsBack, WritesBack, NeverFall, EmptyAlike, EmptyReadsTwo}
+use Rattle.fidelity.proofs.PastLaws.{past-same, past-front}
+use Rattle.fidelity.proofs.WritingHolds as writing
+use Rattle.fidelity.proofs.SaidLaws.{list-said, same-answer, Said, said-found}
+
+pub one-answer : OneAnswer
+one-answer b c r u left other x y =
+    let g = alike (numberSaid r) (numberSaid u) _ _ (readAfter b c) x y in
+    (same-answer r u left other (g .0) (g .1), sym (list-said r left) ∙ ap (λ (o : Outcome). o .list) (g .1) ∙ list-said u other)
+
+pub smallest-number : SmallestNumber
+unfolding readRefusal
+smallest-number b c r left = left-smallest (rowsOf (reading b) c) refl (nothing c) (made (reading b) c) (numberSaid r) (outcomeSaid r left)
+
+-- ---- what the call leaves if it is refused, and if it is not
+-- the bytes are a lookup's, and the columns hold its list
+record Found (b : List ℕ) (c : Columns) (l : Lookup) (o : Outcome) : Type 0 where
+  said : reading b ≡ fine l
+  glyphs : length (l .glyphs) ≤ length (c .glyphs)
+  substitutes : length (l .substitutes) ≤ length (c .substitutes)
+  there : o ≡ found l c
+
+module _ (b : List ℕ) (c : Columns) (r : Answer) (left : Columns) (x : Reading b c r left) where
+  number-given : numberSaid r ≡ readRefusal (reading b) c
+  number-given = left-number (readRefusal (reading b) c) (nothing c) (made (reading b) c) (numberSaid r) (outcomeSaid r left) x
+
+  stays : (numberSaid r ≡ 0 → ⊥) → (left ≡ c) × (outcomeSaid r left ≡ nothing c)
+  stays d =
+      let g = left-stays (readRefusal (reading b) c) (nothing c) (made (reading b) c) (numberSaid r) (outcomeSaid r left) x d in
+      (sym (list-said r left) ∙ ap (λ (o : Outcome). o .list) g, g)
+
+  done : numberSaid r ≡ 0 → outcomeSaid r left ≡ made (reading b) c
+  done z = left-accepted (readRefusal (reading b) c) (nothing c) (made (reading b) c) (numberSaid r) (outcomeSaid r left) x z
+
+  was-found : numberSaid r ≡ 0 → (l : Lookup) × Found b c l (outcomeSaid r left)
+  unfolding readRefusal
+  was-found z = go (reading b) refl (sym number-given ∙ z) (done z)
+    where
+      go : (s : Scan) → reading b ≡ s → first (rowsOf s c) ≡ 0 → outcomeSaid r left ≡ made s c → (l : Lookup) × Found b c l (outcomeSaid r left)
+      go (fine l) e f o =
+          let lacks = first-none 7 (lacking (fine l) c) [] f in
+          let n = neither (ltb (length (c .glyphs)) (length (l .glyphs))) (ltb (length (c .substitutes)) (length (l .substitutes))) (lacks .0) in
+          (l, record { said = e; glyphs = ltb-false _ _ (n .0); substitutes = ltb-false _ _ (n .1); there = o })
+      go (wrong left) e f o = absurd (omega arith)
+      go short e f o = absurd (omega arith)
+
+pub refused-stays : RefusedStays
+refused-stays = stays
+
+-- ---- what the writer gives
+module _ (l : Lookup) where
+  readable : (room : ℕ) → Allowed l room → rising 0 (firsts l) ≡ true → Readable l
+  readable room a up = record { even = a .even; named = a .in-range; fit = a .small; up = up }
+
+  allowed : (room : ℕ) → Readable l → 2 * length (wordsOf l) ≤ room → Allowed l room
+  allowed room q h = record { even = q .even; in-range = q .named; small = q .fit; enough = h }
+
+  front : (area : List ℕ) → take (2 * length (wordsOf l)) (bytes (wordsOf l) ++ drop (2 * length (wordsOf l)) area) ≡ bytes (wordsOf l)
+  front area = take-at (bytes (wordsOf l)) (drop (2 * length (wordsOf l)) area) (2 * length (wordsOf l)) (length-bytes (wordsOf l))
+
+  module _ (area : List ℕ) (w : Written) (out : List ℕ) (x : Writing l area w out) (z : write.numberSaid w ≡ 0) where
+    bytes-given : take (write.lengthSaid w) out ≡ bytes (wordsOf l)
+    bytes-given = rw (writing.length-left l area w out x z, writing.area-left l area w out x z) (front area)
+
+    given-accepted : rising 0 (firsts l) ≡ true → reading (take (write.lengthSaid w) out) ≡ fine (asRead l)
+    given-accepted up = ap reading bytes-given ∙ bytes-accepted l (readable (length area) (writing.accepted l area w out x z) up)
+
+  -- lent an area, it may answer so
+  may-give : (area : List ℕ) → Allowed l (length area) → Writing l area (Bytes (2 * length (wordsOf l))) (bytes (wordsOf l) ++ drop (2 * length (wordsOf l)) area)
+  may-give area a = left-done (writeRefusal l (length area)) (outcome 0 area) _ 0 _ (sym (none-given l (length area) a)) refl refl
+
+-- ---- which bytes are accepted
+pub accepts : Accepts
+unfolding readRefusal
+accepts b h c r left x = (on, back)
+  where
+    on : (numberSaid r ≡ 7 → ⊥) → (l : Lookup) × WriterGives b l
+    on d = go (reading b) refl (number-given b c r left x)
+      where
+        go : (s : Scan) → reading b ≡ s → numberSaid r ≡ first (rowsOf s c) → (l : Lookup) × WriterGives b l
+        go (wrong n) e f = absurd (d f)
+        go short e f = absurd (d f)
+        go (fine l) e f =
+            let m = bytes-written b h l e in
+            let q = m .1 .readable in
+            let long : 2 * length (wordsOf l) ≤ length b = omega (arith, ap length (m .0), length-bytes (wordsOf l)) in (
+              l,
+              record {
+                area = b;
+                answer = Bytes (2 * length (wordsOf l));
+                left = bytes (wordsOf l) ++ drop (2 * length (wordsOf l)) b;
+                asked = may-give l b (allowed l (length b) q long);
+                written = refl;
+                there = front l b ∙ sym (m .0);
+                up = q .up;
+              },
+            )
+
+    back : ((l : Lookup) × WriterGives b l) → numberSaid r ≡ 7 → ⊥
+    back p e =
+        let l : Lookup = p .0 in
+        let g : WriterGives b l = p .1 in
+        let s : reading b ≡ fine (asRead l) = ap reading (sym (g .there)) ∙ given-accepted l (g .area) (g .answer) (g .left) (g .asked) (g .written) (g .up) in
+        go (lacking (fine (asRead l)) c) (sym e ∙ number-given b c r left x ∙ ap (λ (s : Scan). first (rowsOf s c)) s)
+      where
+        go : (t : Bool) → _≡_ {A = ℕ} 7 (cond t 8 0) → ⊥
+        go true f = omega arith
+        go false f = omega arith
+
+-- ---- there and back
+even-read :
+    (kind : Kind) (glyphs substitutes : List ℕ) → length glyphs ≡ length substitutes * width kind → length glyphs ≡ length substitutes * width (kindRead kind substitutes)
+even-read Single glyphs substitutes e = e
+even-read (Ligature n) glyphs [] e = e ∙ zero-mul n ∙ sym (zero-mul 2)
+even-read (Ligature n) glyphs (s ∷ substitutes) e = e
+
+pub reads-back : ReadsBack
+unfolding readRefusal
+reads-back l area w out x z up c glyphs substitutes r left y =
+    let b : List ℕ = take (write.lengthSaid w) out in
+    let s : reading b ≡ fine (asRead l) = given-accepted l area w out x z up in
+    let none : numberSaid r ≡ 0 =
+    number-given b c r left y
+    ∙ ap (λ (s : Scan). first (rowsOf s c)) s
+    ∙ rw (le-ltb (length (c .glyphs)) (length (l .glyphs)) glyphs, le-ltb (length (c .substitutes)) (length (l .substitutes)) substitutes)
+    in
+    let even = even-read (l .kind) (l .glyphs) (l .substitutes) (writing.accepted l area w out x z .even) in
+    (none, said-found (asRead l) even c r left none (done b c r left y none ∙ ap (λ (s : Scan). made s c) s) .lookup)
+
+-- the lookup that an accepted answer says is the one whose bytes were read
+module _ (b : List ℕ) (h : promised.Bytes b) (c : Columns) (r : Answer) (left : Columns) (x : Reading b c r left) (z : numberSaid r ≡ 0) where
+  abbrev said : Lookup
+  said = was-found b c r left x z .0
+
+  is-found : Found b c said (outcomeSaid r left)
+  is-found = was-found b c r left x z .1
+
+  is-written : (b ≡ bytes (wordsOf said)) × Readable said
+  is-written =
+      let m = bytes-written b h said (is-found .said) in
+      (m .0, m .1 .readable)
+
+  is-said : Said said (is-written .1 .even) c r left
+  is-said = said-found said (is-written .1 .even) c r left z (is-found .there)
+
+  columns-left : left ≡ found said c .list
+  columns-left = sym (list-said r left) ∙ ap (λ (o : Outcome). o .list) (is-found .there)
+
+  past-glyphs : Past (glyphsSaid r) (c .glyphs) (left .glyphs)
+  past-glyphs = past-front (length (said .glyphs)) (said .glyphs) (c .glyphs) (left .glyphs) refl (is-found .glyphs) (ap (λ (d : Columns). d .glyphs) columns-left) (glyphsSaid r) (is-said .glyphs)
+
+  past-substitutes : Past (countSaid r) (c .substitutes) (left .substitutes)
+  past-substitutes =
+      past-front (length (said .substitutes)) (said .substitutes) (c .substitutes) (left .substitutes) refl (is-found .substitutes) (ap (λ (d : Columns). d .substitutes) columns-left) (countSaid r) (is-said .count)
+
+  never-falls : rising 0 (firsts (lookupSaid r left)) ≡ true
+  never-falls = ap (λ (l : Lookup). rising 0 (firsts l)) (is-said .lookup) ∙ is-written .1 .up
+
+  module _ (area : List ℕ) (long : length b ≤ length area) (w : Written) (out : List ℕ) (y : Writing (lookupSaid r left) area w out) where
+    asked : Writing said area w out
+    asked = rw (← is-said .lookup) y
+
+    size : length b ≡ 2 * length (wordsOf said)
+    size = ap length (is-written .0) ∙ length-bytes (wordsOf said)
+
+    unrefused : write.numberSaid w ≡ 0
+    unrefused = writing.number-given said area w out asked ∙ none-given said (length area) (allowed said (length area) (is-written .1) (omega (arith, size)))
+
+    back-again : (write.numberSaid w ≡ 0) × (write.lengthSaid w ≡ length b) × (take (length b) out ≡ b)
+    back-again =
+        let n : write.lengthSaid w ≡ length b = writing.length-left said area w out asked unrefused ∙ sym size in
+        (unrefused, n, ap (λ (k : ℕ). take k out) (sym n) ∙ bytes-given said area w out asked unrefused ∙ sym (is-written .0))
+
+pub writes-back : WritesBack
+writes-back = back-again
+
+pub never-fall : NeverFall
+never-fall = never-falls
+
+pub past-the-answer : PastTheAnswer
+past-the-answer b h c r left x = go (numberSaid r) refl
+  where
+    go : (n : ℕ) → numberSaid r ≡ n → Past (glyphsSaid r) (c .glyphs) (left .glyphs) × Past (countSaid r) (c .substitutes) (left .substitutes)
+    go zero e = (past-glyphs b h c r left x e, past-substitutes b h c r left x e)
+    go (suc n) e = rw (stays b c r left x (λ z. omega (arith, e, z)) .0) (past-same (glyphsSaid r) (c .glyphs), past-same (countSaid r) (c .substitutes))
+
+-- ---- an empty list of ligatures
+after-alike : (flags : ℕ) (area : List ℕ) → writeAfter (lookupOf flags (Ligature 3) [] []) area ≡ writeAfter (lookupOf flags (Ligature 2) [] []) area
+unfolding writeRefusal rules ligature ligatureOf sets offsets joined
+after-alike flags area = refl
+
+pub empty-alike : EmptyAlike
+empty-alike flags area w v out other x y = one-written (lookupOf flags (Ligature 2) [] []) area w v out other x (y ∙ after-alike flags area)
+
+pub empty-reads-two : EmptyReadsTwo
+unfolding rules
+empty-reads-two flags n area w out x z c r left y =
+    reads-back (lookupOf flags (Ligature n) [] []) area w out x z refl c (omega arith) (omega arith) r left y

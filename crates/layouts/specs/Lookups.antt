@@ -1,7 +1,7 @@
--- A lookup and its words: `Lookup`, `lookupOf` its flags, its kind and its list, as two columns; `width` how many glyphs a rule replaces; `known` which numbers of components there are; `rules` the rules of a ligature lookup; `laidOut`, `wordsOf` the lookup's words; `firstsIn`, `firsts` the first glyphs of its list; `fits` that numbers are of 16 bits.
+-- A lookup and its words: `Lookup`, `lookupOf` its flags, its kind and its list, as two columns; `width` how many glyphs a rule replaces; `known` which numbers of components there are; `rules` the rules of a ligature lookup; `flat`, `ligatures`, `listed` the columns of rules, and their lookup; `laidOut`, `wordsOf` the lookup's words; `firstsIn`, `firsts` the first glyphs of its list; `fits` that numbers are of 16 bits.
 -- Assumes nothing.
 use mathlib.Core.Bool.{Bool, true, _&&_, _||_}
-use mathlib.Core.List.{List, [], _∷_, map}
+use mathlib.Core.List.{List, [], _∷_, _++_, map}
 use Prim.Native.Nat.{ℕ}
 use lib.Dec.{eqb, ltb}
 use lib.ListN.{take, drop}
@@ -33,6 +33,18 @@ known (Ligature n) = eqb n 2 || eqb n 3
 unfoldable pub rules : ℕ → List ℕ → List ℕ → List Rule
 rules n components [] = []
 rules n components (l ∷ ligatures) = record { components = take n components; ligature = l } ∷ rules n (drop n components) ligatures
+
+-- the two columns that hold rules: their components, one rule behind the other, and what stands for them
+unfoldable pub flat : List Rule → List ℕ
+flat [] = []
+flat (r ∷ rs) = r .components ++ flat rs
+
+abbrev pub ligatures : List Rule → List ℕ
+ligatures rs = map (λ r. r .ligature) rs
+
+-- the lookup of rules; those of a single lookup have one component
+abbrev pub listed : ℕ → Kind → List Rule → Lookup
+listed flags kind rs = lookupOf flags kind (flat rs) (ligatures rs)
 
 -- the words of a lookup of each kind
 abbrev pub laidOut : Kind → ℕ → List ℕ → List ℕ → List ℕ

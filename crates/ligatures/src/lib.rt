@@ -22,7 +22,7 @@ use refusals::Refusal;
 const MOST_RULES: usize = 16383;
 
 // Whether `len` components are `n` for each of `count` ligatures.
-fn flat(len: usize, count: usize, n: usize) -> bool
+pub fn flat(len: usize, count: usize, n: usize) -> bool
     ensures { λ r. ⌜ r ≡ eqb len (count * n) ⌝ }
 {
     if n == 0 {

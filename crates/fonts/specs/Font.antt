@@ -1,0 +1,42 @@
+-- A font's map from code points to glyphs, two columns: `Font`, `fontOf` the map; `Sound` what is asked of one; `absent`, `glyphAmong`, `glyphOf` the glyph of a code, or none; `numberFound` what a search answers.
+-- Assumes nothing.
+use mathlib.Core.Path.{_≡_}
+use mathlib.Core.Bool.{true, cond}
+use mathlib.Core.List.{List, [], _∷_}
+use Prim.Native.Nat.{ℕ}
+use lib.Dec.{eqb}
+use lib.ListN.{length}
+use Rattle.refusals.specs.Columns.{rising}
+use Rattle.fonts.specs.declared.Found.{Found}
+use Rattle.fonts.specs.declared.Found.the-variants.{At, Absent}
+
+-- codes, and the glyph of each at its place
+pub record Font : Type 0 where
+  pub codes : List ℕ
+  pub glyphs : List ℕ
+
+abbrev pub fontOf : List ℕ → List ℕ → Font
+fontOf codes glyphs = record { codes = codes; glyphs = glyphs }
+
+-- a glyph for each code, and "codes rise strictly"
+pub record Sound (f : Font) : Type 0 where
+  pub even : length (f .codes) ≡ length (f .glyphs)
+  pub rises : rising 1 (f .codes) ≡ true
+
+-- stands for the glyph of a code that the font has not: above every number of 32 bits
+abbrev pub absent : ℕ
+absent = 4294967296
+
+-- the glyph at the place of the code c
+unfoldable pub glyphAmong : List ℕ → List ℕ → ℕ → ℕ
+glyphAmong [] glyphs c = absent
+glyphAmong (x ∷ codes) [] c = absent
+glyphAmong (x ∷ codes) (g ∷ glyphs) c = cond (eqb x c) g (glyphAmong codes glyphs c)
+
+abbrev pub glyphOf : Font → ℕ → ℕ
+glyphOf f c = glyphAmong (f .codes) (f .glyphs) c
+
+-- what a search answers, as a number
+abbrev pub numberFound : Found → ℕ
+numberFound (At g) = g .0
+numberFound Absent = absent

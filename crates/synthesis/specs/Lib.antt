@@ -1,0 +1,3 @@
+-- What the contracts of `synthesis` cite, and those of the plan.
+-- Assumes nothing.
+pub mod Rules

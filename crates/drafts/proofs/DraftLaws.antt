@@ -1,0 +1,87 @@
+-- Drafts: one without entries (`begun-drafted`); a lookup that is written behind the others is an entry more (`written-part`, `pushed`); nothing added (`none-added`).
+-- Assumes nothing.
+use mathlib.Core.Path.{_≡_, refl, sym, ap, _∙_}
+use mathlib.Core.List.{List, [], _∷_, _++_, append-assoc, append-nil}
+use Prim.Native.Nat.{ℕ, suc, _+_, _*_, _-_, _<_, _≤_}
+use native.Mathlib.Omega.{arith}
+use lib.ListN.{length, take, drop, length-append, length-drop}
+use lib.Seq.{take-at, take-all, length-take-le}
+use borrow.Rule.Slice.PartMut.{midOf, putMid, postOf}
+use Rattle.refusals.proofs.LeftLaws.{left-number, left-accepted}
+use Rattle.words.specs.Words.{bytes}
+use Rattle.words.proofs.WordLaws.{length-bytes}
+use Rattle.layouts.specs.declared.Written.{Written}
+use Rattle.layouts.specs.Lookups.{Lookup, wordsOf}
+use Rattle.layouts.specs.Written.{Outcome, outcome, writeRefusal, numberSaid, lengthSaid, Writing}
+use Rattle.drafts.specs.declared.Draft.{Draft}
+use Rattle.drafts.specs.Entries.{Entry, sizeOf, bytesOf, allBytes}
+use Rattle.drafts.specs.Drafted.{begun, noted, Drafted, Added}
+use Rattle.drafts.proofs.EntryLaws.{all-more, pad-more}
+
+pub begun-drafted : (scratch : List ℕ) → Drafted [] begun scratch
+unfolding allBytes
+begun-drafted scratch = record { counted = refl; masked = refl; measured = refl; ends = refl; holds = refl }
+
+pub none-added : (most : ℕ) (d : Draft) (scratch : List ℕ) → Added [] most d scratch d scratch
+none-added most d scratch =
+    record { few = omega arith; short = omega arith; then = λ es p. rw (append-nil es) p }
+
+-- a lookup that is not refused, written from byte a on
+module _ (l : Lookup) (a : ℕ) (scratch : List ℕ) (h : a ≤ length scratch) (r : Written) (part : List ℕ) where
+  abbrev lent : List ℕ
+  lent = midOf a (length scratch - a) scratch
+
+  length-lent : length lent ≡ length scratch - a
+  length-lent = ap length (take-all (length scratch - a) (drop a scratch) (omega (arith, length-drop a scratch))) ∙ length-drop a scratch
+
+  module _ (free : writeRefusal l (length scratch - a) ≡ 0) (w : Writing l lent r part) where
+    passed : writeRefusal l (length lent) ≡ 0
+    passed = ap (writeRefusal l) length-lent ∙ free
+
+    all-written : outcome (lengthSaid r) part ≡ outcome (2 * length (wordsOf l)) (bytes (wordsOf l) ++ drop (2 * length (wordsOf l)) lent)
+    all-written = left-accepted (writeRefusal l (length lent)) _ _ (numberSaid r) _ w (left-number (writeRefusal l (length lent)) _ _ (numberSaid r) _ w ∙ passed)
+
+    pub length-written : lengthSaid r ≡ length (bytes (wordsOf l))
+    length-written = ap (λ (o : Outcome). o .count) all-written ∙ sym (length-bytes (wordsOf l))
+
+    part-written : part ≡ bytes (wordsOf l) ++ drop (2 * length (wordsOf l)) lent
+    part-written = ap (λ (o : Outcome). o .area) all-written
+
+    -- its bytes stand behind those that were there
+    pub behind-others : take (a + lengthSaid r) (putMid a (length scratch - a) scratch part) ≡ take a scratch ++ bytes (wordsOf l)
+    behind-others =
+        let T = take a scratch in
+        let B = bytes (wordsOf l) in
+        let D = drop (2 * length (wordsOf l)) lent in
+        let E = postOf a (length scratch - a) scratch in
+        let cut : T ++ (part ++ E) ≡ (T ++ B) ++ (D ++ E) =
+        ap (λ (p : List ℕ). T ++ (p ++ E)) part-written ∙ ap (λ (m : List ℕ). T ++ m) (append-assoc B D E) ∙ sym (append-assoc T B (D ++ E))
+        in
+        let long : length (T ++ B) ≡ a + lengthSaid r = length-append T B ∙ rw (length-take-le a scratch h, length-written) in
+        ap (take (a + lengthSaid r)) cut ∙ take-at (T ++ B) (D ++ E) (a + lengthSaid r) long
+
+-- an entry more, its lookup written behind the others
+module _ (l : Lookup) (mask : ℕ) (d : Draft) (scratch : List ℕ) (h : d .end ≤ length scratch) (r : Written) (part : List ℕ) where
+  abbrev new : Entry
+  new = record { mask = mask; lookup = l }
+
+  pub pushed :
+      writeRefusal l (length scratch - d .end) ≡ 0 → Writing l (midOf (d .end) (length scratch - d .end) scratch) r part → d .count < 7
+      → (d′ : Draft) → d′ ≡ noted d mask (lengthSaid r)
+      → Added (new ∷ []) (sizeOf new) d scratch d′ (putMid (d .end) (length scratch - d .end) scratch part)
+  pushed free w c d′ e =
+      let n : lengthSaid r ≡ sizeOf new = length-written l (d .end) scratch h r part free w in
+      let there = behind-others l (d .end) scratch h r part free w in
+      rw e
+      (record {
+        few = omega arith;
+        short = omega arith;
+        then = λ es p.
+        record {
+          counted = ap (λ (k : ℕ). k + 1) (p .counted) ∙ sym (length-append es (new ∷ []));
+          masked = rw (p .masked, p .counted) (pad-more (λ x. x .mask) es new (omega (arith, p .counted)));
+          measured = rw (p .measured, p .counted, n) (pad-more sizeOf es new (omega (arith, p .counted)));
+          ends = rw (p .ends, n) (sym (ap length (all-more es new) ∙ length-append (allBytes es) (bytesOf new)));
+          holds = there ∙ rw (p .holds) (sym (all-more es new));
+        };
+      })

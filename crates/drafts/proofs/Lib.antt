@@ -1,0 +1,4 @@
+-- The laws of `drafts`.
+-- Assumes nothing.
+pub mod EntryLaws
+pub mod DraftLaws

@@ -1,0 +1,29 @@
+-- A plan while it is made: `begun` a draft without entries; `noted` a draft with an entry more; `Drafted` that a draft and the bytes beside it hold certain entries; `Added` that entries were added to whatever entries there were, with at most so many bytes.
+-- Assumes nothing.
+use mathlib.Core.Path.{_≡_}
+use mathlib.Core.List.{List, _++_}
+use Prim.Native.Nat.{ℕ, _+_, _≤_}
+use lib.ListN.{length, take, set}
+use Rattle.drafts.specs.declared.Draft.{Draft}
+use Rattle.drafts.specs.Entries.{Entry, allBytes, seven, masksOf, lengthsOf}
+
+abbrev pub begun : Draft
+begun = record { count = 0; end = 0; masks = seven; lengths = seven }
+
+-- an entry more, whose lookup has n bytes
+abbrev pub noted : Draft → ℕ → ℕ → Draft
+noted d mask n = record { count = d .count + 1; end = d .end + n; masks = set (d .masks) (d .count) mask; lengths = set (d .lengths) (d .count) n }
+
+-- the draft d has these entries, and their bytes stand at the start of `scratch`
+pub record Drafted (entries : List Entry) (d : Draft) (scratch : List ℕ) : Type 0 where
+  pub counted : d .count ≡ length entries
+  pub masked : d .masks ≡ masksOf entries
+  pub measured : d .lengths ≡ lengthsOf entries
+  pub ends : d .end ≡ length (allBytes entries)
+  pub holds : take (d .end) scratch ≡ allBytes entries
+
+-- whatever the draft had, it has the new entries behind it: one at most, of at most `most` bytes
+pub record Added (new : List Entry) (most : ℕ) (d : Draft) (scratch : List ℕ) (d′ : Draft) (scratch′ : List ℕ) : Type 0 where
+  pub few : d′ .count ≤ d .count + 1
+  pub short : d′ .end ≤ d .end + most
+  pub then : (entries : List Entry) → Drafted entries d scratch → Drafted (entries ++ new) d′ scratch′

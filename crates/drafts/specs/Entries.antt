@@ -1,0 +1,44 @@
+-- The entries of a plan (document 01: "at most seven entries, each a mask and a byte length, and the lookups' bytes one after another"): `Entry` a mask and a lookup; `entry` the entry of rules, if there is one; `bytesOf`, `sizeOf`, `allBytes` the bytes of lookups, and how many; `seven`, `padded` numbers in seven places.
+-- Assumes nothing.
+use mathlib.Core.Bool.{cond, _||_}
+use mathlib.Core.List.{List, [], _∷_, _++_, map}
+use Prim.Native.Nat.{ℕ}
+use lib.Dec.{eqb}
+use lib.ListN.{length, drop}
+use Rattle.words.specs.Words.{bytes}
+use Rattle.layouts.specs.declared.Kind.{Kind}
+use Rattle.layouts.specs.Tables.{Rule}
+use Rattle.layouts.specs.Lookups.{Lookup, wordsOf, listed}
+
+pub record Entry : Type 0 where
+  pub mask : ℕ
+  pub lookup : Lookup
+
+-- "zero masks skipped"; a lookup of no rules is left out
+abbrev pub entry : ℕ → ℕ → Kind → List Rule → List Entry
+entry mask flags kind rules = cond (eqb mask 0 || eqb (length rules) 0) [] (record { mask = mask; lookup = listed flags kind rules } ∷ [])
+
+-- the bytes of an entry's lookup, and of all, one lookup behind the other
+abbrev pub bytesOf : Entry → List ℕ
+bytesOf e = bytes (wordsOf (e .lookup))
+
+abbrev pub sizeOf : Entry → ℕ
+sizeOf e = length (bytesOf e)
+
+unfoldable pub allBytes : List Entry → List ℕ
+allBytes [] = []
+allBytes (e ∷ entries) = bytesOf e ++ allBytes entries
+
+-- places for the numbers of entries, zeros where there is none
+abbrev pub seven : List ℕ
+seven = 0 ∷ 0 ∷ 0 ∷ 0 ∷ 0 ∷ 0 ∷ 0 ∷ []
+
+abbrev pub padded : List ℕ → List ℕ
+padded numbers = numbers ++ drop (length numbers) seven
+
+-- what an answer says of entries: their masks, and how many bytes each lookup has
+abbrev pub masksOf : List Entry → List ℕ
+masksOf entries = padded (map (λ e. e .mask) entries)
+
+abbrev pub lengthsOf : List Entry → List ℕ
+lengthsOf entries = padded (map sizeOf entries)

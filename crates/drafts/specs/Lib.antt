@@ -1,0 +1,4 @@
+-- What the contracts of `drafts` cite, and those of the plan.
+-- Assumes nothing.
+pub mod Entries
+pub mod Drafted

@@ -67,21 +67,21 @@ module _ (l : Lookup) (mask : ℕ) (d : Draft) (scratch : List ℕ) (h : d .end 
 
   pub pushed :
       writeRefusal l (length scratch - d .end) ≡ 0 → Writing l (midOf (d .end) (length scratch - d .end) scratch) r part → d .count < 7
-      → (d′ : Draft) → d′ ≡ noted d mask (lengthSaid r)
-      → Added (new ∷ []) (sizeOf new) d scratch d′ (putMid (d .end) (length scratch - d .end) scratch part)
-  pushed free w c d′ e =
+      → (bound : ℕ) → 2 * length (wordsOf l) ≤ bound → (d′ : Draft) → d′ ≡ noted d mask (lengthSaid r)
+      → Added (new ∷ []) bound d scratch d′ (putMid (d .end) (length scratch - d .end) scratch part)
+  pushed free w c bound short d′ e =
       let n : lengthSaid r ≡ sizeOf new = length-written l (d .end) scratch h r part free w in
       let there = behind-others l (d .end) scratch h r part free w in
       rw e
       (record {
         few = omega arith;
-        short = omega arith;
+        short = omega (arith, length-bytes (wordsOf l));
         then = λ es p.
-        record {
-          counted = ap (λ (k : ℕ). k + 1) (p .counted) ∙ sym (length-append es (new ∷ []));
-          masked = rw (p .masked, p .counted) (pad-more (λ x. x .mask) es new (omega (arith, p .counted)));
-          measured = rw (p .measured, p .counted, n) (pad-more sizeOf es new (omega (arith, p .counted)));
-          ends = rw (p .ends, n) (sym (ap length (all-more es new) ∙ length-append (allBytes es) (bytesOf new)));
-          holds = there ∙ rw (p .holds) (sym (all-more es new));
-        };
+            record {
+              counted = ap (λ (k : ℕ). k + 1) (p .counted) ∙ sym (length-append es (new ∷ []));
+              masked = rw (p .masked, p .counted) (pad-more (λ x. x .mask) es new (omega (arith, p .counted)));
+              measured = rw (p .measured, p .counted, n) (pad-more sizeOf es new (omega (arith, p .counted)));
+              ends = rw (p .ends, n) (sym (ap length (all-more es new) ∙ length-append (allBytes es) (bytesOf new)));
+              holds = there ∙ rw (p .holds) (sym (all-more es new));
+            };
       })

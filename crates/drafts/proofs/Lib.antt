@@ -2,3 +2,4 @@
 -- Assumes nothing.
 pub mod EntryLaws
 pub mod DraftLaws
+pub mod RoomLaws

@@ -1,12 +1,13 @@
--- The entries of a plan (document 01: "at most seven entries, each a mask and a byte length, and the lookups' bytes one after another"): `Entry` a mask and a lookup; `entry` the entry of rules, if there is one; `bytesOf`, `sizeOf`, `allBytes` the bytes of lookups, and how many; `seven`, `padded` numbers in seven places.
+-- The entries of a plan (document 01: "at most seven entries, each a mask and a byte length, and the lookups' bytes one after another"): `Entry` a mask and a lookup; `entry` the entry of rules, if there is one; `bytesOf`, `sizeOf`, `allBytes` the bytes of lookups, and how many; `seven`, `padded`, `masksOf`, `lengthsOf` what is said of entries, in seven places; `ruleLimit`, `most` how many rules a lookup of a plan has at most, and how many bytes.
 -- Assumes nothing.
 use mathlib.Core.Bool.{cond, _||_}
 use mathlib.Core.List.{List, [], _∷_, _++_, map}
-use Prim.Native.Nat.{ℕ}
+use Prim.Native.Nat.{ℕ, _+_, _*_}
 use lib.Dec.{eqb}
 use lib.ListN.{length, drop}
 use Rattle.words.specs.Words.{bytes}
 use Rattle.layouts.specs.declared.Kind.{Kind}
+use Rattle.layouts.specs.declared.Kind.the-variants.{Single, Ligature}
 use Rattle.layouts.specs.Tables.{Rule}
 use Rattle.layouts.specs.Lookups.{Lookup, wordsOf, listed}
 
@@ -42,3 +43,11 @@ masksOf entries = padded (map (λ e. e .mask) entries)
 
 abbrev pub lengthsOf : List Entry → List ℕ
 lengthsOf entries = padded (map sizeOf entries)
+
+-- "a rule list of the plan over 1,024 rows" is refused, so no lookup has more rules, and none has more bytes than these
+abbrev pub ruleLimit : ℕ
+ruleLimit = 1024
+
+abbrev pub most : Kind → ℕ
+most Single = 18 + 4 * ruleLimit
+most (Ligature n) = 18 + 6 * ruleLimit + ruleLimit * (4 + 2 * n)

@@ -1,12 +1,13 @@
 // Drafts: a plan while it is made. Lookups are written one behind the other into memory that no customer lent, so that nothing is written there before it is known that all of them go in.
 ghost use mathlib.Core.Path.{_≡_};
 ghost use mathlib.Core.List.{[], _∷_};
-ghost use Prim.Native.Nat.{_+_, _-_, _<_, _≤_};
-ghost use lib.ListN.{length};
+ghost use mathlib.Core.Bool.{cond};
+ghost use Prim.Native.Nat.{_+_, _<_};
+ghost use lib.Dec.{eqb};
 ghost use Rattle.layouts.specs.Lookups.{lookupOf};
-ghost use Rattle.layouts.specs.Written.{Writing, writeRefusal};
-ghost use Rattle.drafts.specs.Entries.{sizeOf};
-ghost use Rattle.drafts.specs.Drafted.{begun, noted, Added};
+ghost use Rattle.layouts.specs.Written.{Writing};
+ghost use Rattle.drafts.specs.Entries.{most};
+ghost use Rattle.drafts.specs.Drafted.{begun, noted, Fit, Added};
 use layouts::Kind;
 use layouts::Written;
 
@@ -73,10 +74,29 @@ pub fn push(
     substitutes: &[u16],
     scratch: &mut [u8],
 ) -> Draft
-    requires { ⌜ (draft .count < 7) × (draft .end ≤ length (now scratch)) × (length (now scratch) < 4294967296) × (writeRefusal (lookupOf flags kind (now glyphs) (now substitutes)) (length (now scratch) - draft .end) ≡ 0) ⌝ }
-    ensures { λ r. ⌜ Added (record { mask = mask; lookup = lookupOf flags kind (now (glyphs .entry)) (now (substitutes .entry)) } ∷ []) (sizeOf (record { mask = mask; lookup = lookupOf flags kind (now (glyphs .entry)) (now (substitutes .entry)) })) draft (now (scratch .entry)) r (now (scratch .exit)) ⌝ }
+    requires { ⌜ Fit kind (now glyphs) (now substitutes) draft (now scratch) ⌝ }
+    ensures { λ r. ⌜ Added (record { mask = mask; lookup = lookupOf flags kind (now (glyphs .entry)) (now (substitutes .entry)) } ∷ []) (most kind) draft (now (scratch .entry)) r (now (scratch .exit)) ⌝ }
 {
     let end = draft.end;
     let written = serialize(kind, flags, glyphs, substitutes, &mut scratch[end..]);
     draft.with(mask, written.length() as u32)
+}
+
+// Adds a lookup whose list has rules, unless it has no mask.
+pub fn add_direct_lookup(
+    draft: Draft,
+    mask: u32,
+    kind: Kind,
+    flags: u16,
+    glyphs: &[u16],
+    substitutes: &[u16],
+    scratch: &mut [u8],
+) -> Draft
+    requires { ⌜ Fit kind (now glyphs) (now substitutes) draft (now scratch) ⌝ }
+    ensures { λ r. ⌜ Added (cond (eqb mask 0) [] (record { mask = mask; lookup = lookupOf flags kind (now (glyphs .entry)) (now (substitutes .entry)) } ∷ [])) (most kind) draft (now (scratch .entry)) r (now (scratch .exit)) ⌝ }
+{
+    if mask == 0 {
+        return draft;
+    }
+    push(draft, mask, kind, flags, glyphs, substitutes, scratch)
 }

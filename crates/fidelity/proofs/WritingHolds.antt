@@ -22,9 +22,8 @@ use Rattle.layouts.proofs.FitLaws.{fits-lent}
 use Rattle.layouts.proofs.SetLaws.{wide-rules}
 use Rattle.layouts.proofs.SizeLaws.{size-single, size-ligature}
 use Rattle.layouts.proofs.LimitLaws.{Regular, regular-rules, single-fits}
-use Rattle.layouts.proofs.WrittenLaws.{one-written, Allowed, allowed, offset-given, room-given, none-given}
+use Rattle.layouts.proofs.WrittenLaws.{one-written, Allowed, allowed, offset-given, room-given, none-given, two-or-three}
 use Rattle.scanning.proofs.GroupLaws.{ligatures-rules}
-use Rattle.scanning.proofs.ExactLaws.{two-or-three}
 use Rattle.reading.specs.Read.{typeOf}
 use Rattle.demands.specs.Stretching.{Past}
 use Rattle.fidelity.specs.Followed.{coverageAt, followed}

@@ -1,8 +1,9 @@
 -- The answers of a writer: one is known by its number and its length (`same-answer`); two that the statement allows are equal, and leave the same area (`one-written`); when each number is given (`uneven-given`, `range-given`, `offset-given`, `room-given`) and when none is
--- (`Allowed`, `allowed`, `none-given`); what a refused call answers and leaves (`written-refused`), and one that wrote all words (`written-all`).
+-- (`Allowed`, `allowed`, `none-given`); a known component number is one of two (`two-or-three`); what a refused call answers and leaves (`written-refused`), and one that wrote all words (`written-all`).
 -- Assumes nothing.
 use mathlib.Core.Path.{_≡_, refl, sym, ap, ap₂, _∙_}
-use mathlib.Core.Bool.{true, false, not}
+use mathlib.Core.Bool.{Bool, true, false, not, _||_, false≢true}
+use mathlib.Core.Logic.{_⊎_, inl, inr}
 use mathlib.Core.List.{List, [], _∷_, _++_}
 use Prim.Native.Nat.{ℕ, _*_, _<_, _≤_}
 use native.Mathlib.Omega.{arith}
@@ -19,6 +20,7 @@ use Rattle.refusals.proofs.LeftLaws.{alike, left-refused, left-done}
 use Rattle.words.specs.Words.{bytes, Wrote}
 use Rattle.words.proofs.WordLaws.{length-bytes, paste-front}
 use Rattle.words.proofs.WroteLaws.{ended}
+use Rattle.layouts.specs.declared.Kind.the-variants.{Ligature}
 use Rattle.layouts.specs.declared.Written.{Written}
 use Rattle.layouts.specs.declared.Written.the-variants.{Bytes}
 use Rattle.layouts.specs.Lookups.{Lookup, width, known, wordsOf, fits}
@@ -41,6 +43,15 @@ one-written l area r u left other p q =
     (same-answer r u (g .0) (ap (λ (x : Outcome). x .count) (g .1)), ap (λ (x : Outcome). x .area) (g .1))
 
 -- ---- when a number is given
+-- "component number other than 2 or 3"
+pub two-or-three : (n : ℕ) → known (Ligature n) ≡ true → (n ≡ 2) ⊎ (n ≡ 3)
+two-or-three n e = go (eqb n 2) (eqb n 3) refl refl e
+  where
+    go : (a b : Bool) → eqb n 2 ≡ a → eqb n 3 ≡ b → (a || b) ≡ true → (n ≡ 2) ⊎ (n ≡ 3)
+    go true b p q e = inl (eqb-true n 2 p)
+    go false true p q e = inr (eqb-true n 3 q)
+    go false false p q e = absurd (false≢true e)
+
 -- of the rows that writing uses, none applies
 pub record Allowed (l : Lookup) (room : ℕ) : Type 0 where
   pub even : length (l .glyphs) ≡ length (l .substitutes) * width (l .kind)

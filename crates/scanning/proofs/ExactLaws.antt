@@ -1,7 +1,7 @@
--- Acceptance word by word is exact: what is written is accepted and reads as it was (`accepted-written`), and what is read was written (`read-is-written`); two lookups with the same words read alike (`read-alike`), and words are those of one lookup only that is as it reads (`written-once`). The same of bytes (`bytes-accepted`, `bytes-written`), and in one statement (`exact`). A known component number is one of two (`two-or-three`).
+-- Acceptance word by word is exact: what is written is accepted and reads as it was (`accepted-written`), and what is read was written (`read-is-written`); two lookups with the same words read alike (`read-alike`), and words are those of one lookup only that is as it reads (`written-once`). The same of bytes (`bytes-accepted`, `bytes-written`), and in one statement (`exact`).
 -- Assumes nothing.
 use mathlib.Core.Path.{_≡_, refl, sym, ap, _∙_}
-use mathlib.Core.Bool.{Bool, true, false, cond, not, _||_, false≢true}
+use mathlib.Core.Bool.{Bool, true, false, cond, not}
 use mathlib.Core.Logic.{_⊎_, inl, inr}
 use mathlib.Core.List.{List, [], _∷_, _++_, map}
 use Prim.Native.Nat.{ℕ, _+_, _*_, _/_, _%_, _<_, _≤_}
@@ -20,6 +20,7 @@ use Rattle.layouts.specs.Tables.{Rule, first, sets, offsets, joined, single, li
 use Rattle.layouts.specs.Lookups.{Lookup, lookupOf, width, known, rules, laidOut, wordsOf, firstsIn, firsts, fits}
 use Rattle.layouts.specs.Written.{rowsOf, writeRefusal}
 use Rattle.layouts.proofs.FitLaws.{fits-parts, fits-head, fits-lent}
+use Rattle.layouts.proofs.WrittenLaws.{two-or-three}
 use Rattle.scanning.specs.Scans.{Scan, fine, wrong, short, further}
 use Rattle.scanning.specs.Grammar.{mostSingle, singleScan, ligatureScan, scan, leftOver, reading}
 use Rattle.scanning.specs.Exact.{kindRead, asRead, Readable, IsWritten, Accepted, Written, Exact}
@@ -66,15 +67,6 @@ none-accepted flags n fit =
     further-second (singleScan 0 (ligature flags n [])) (further (ligatureScan 2 (ligature flags n [])) (ligatureScan 3 (ligature flags n []))) (lookupOf flags (Ligature 2) [] [])
     (λ m. ligature-no-single 0 flags n [] m)
     (rw (ligature-on 2 (omega arith) flags [] [] refl refl fit))
-
--- "component number other than 2 or 3"
-pub two-or-three : (n : ℕ) → known (Ligature n) ≡ true → (n ≡ 2) ⊎ (n ≡ 3)
-two-or-three n e = go (eqb n 2) (eqb n 3) refl refl e
-  where
-    go : (a b : Bool) → eqb n 2 ≡ a → eqb n 3 ≡ b → (a || b) ≡ true → (n ≡ 2) ⊎ (n ≡ 3)
-    go true b p q e = inl (eqb-true n 2 p)
-    go false true p q e = inr (eqb-true n 3 q)
-    go false false p q e = absurd (false≢true e)
 
 ligature-accepted :
     (flags n : ℕ) (components ligatures : List ℕ) → known (Ligature n) ≡ true → length components ≡ length ligatures * n

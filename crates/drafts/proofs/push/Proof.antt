@@ -1,15 +1,15 @@
 -- `drafts::push` meets its contract.
 -- Assumes nothing.
 use mathlib.Core.Path.{_≡_, ap, _∙_}
-use Prim.Native.Nat.{_≤_, _+_, _-_}
+use Prim.Native.Nat.{_≤_, _+_}
 use lib.ListN.{length}
 use native.Mathlib.Omega.{arith}
 use Rattle.words.proofs.WordLaws.{length-bytes}
 use Rattle.layouts.specs.Lookups.{lookupOf, wordsOf}
-use Rattle.layouts.specs.Written.{lengthSaid}
-use Rattle.layouts.proofs.WrittenLaws.{allowed}
+use Rattle.drafts.specs.Entries.{most}
 use Rattle.drafts.specs.Drafted.{noted}
 use Rattle.drafts.proofs.DraftLaws.{length-written, pushed}
+use Rattle.drafts.proofs.RoomLaws.{Bounds, fit-bounds}
 use borrow.Author.Needs.{needs}
 use Rattle.drafts.proofs.push.Statement.{statement}
 use Rattle.drafts.proofs.push.Tie as tie
@@ -19,6 +19,13 @@ use Rattle.drafts.proofs.Draft.with.Reads as with-reads
 use Rattle.drafts.proofs.serialize.Reads as serialize-reads
 use Rattle.layouts.proofs.Written.length.Reads as length-reads
 
+-- what was asked: the lookup is not refused, and has at most so many bytes
+fit : (b : tie.After-slice-known) → Bounds (b .before .before .before .args .kind) (lookupOf (b .before .before .before .args .flags) (b .before .before .before .args .kind) (b .before .before .before .args .glyphs .now) (b .before .before .before .args .substitutes .now)) (b .before .before .before .args .draft) (b .before .before .before .args .scratch .now)
+fit b =
+    let s = b .before .before .before in
+    let a = s .args in
+    fit-bounds (a .flags) (omega arith) (a .kind) (a .glyphs .now) (a .substitutes .now) (λ i. omega (arith, b .before .before .shared-slice-known .given i)) (λ i. omega (arith, b .before .shared-slice-known2 .given i)) (a .draft) (a .scratch .now) (s .pre)
+
 -- the bytes of the lookup go into what is lent
 in-scratch : (k : tie.After-length) → k .before .before .before .before .before .before .before .before .args .draft .end + k .length .result ≤ length (k .before .before .before .before .before .before .before .before .args .scratch .now)
 in-scratch k =
@@ -26,8 +33,9 @@ in-scratch k =
     let b = s .before .before .before .before .before in
     let a = b .args in
     let l = lookupOf (a .flags) (a .kind) (a .glyphs .now) (a .substitutes .now) in
-    let n = length-written l (a .draft .end) (a .scratch .now) (b .pre .1) (s .serialize .result) (s .serialize .last .1 .1 .1 .1 .0) (b .pre .3) (s .serialize .ensures) in
-    omega (arith, k .length .ensures, n, length-bytes (wordsOf l), allowed l (length (a .scratch .now) - a .draft .end) (b .pre .3) .enough, b .pre .1)
+    let g = fit (s .before .before) in
+    let n = length-written l (a .draft .end) (a .scratch .now) (g .inside) (s .serialize .result) (s .serialize .last .1 .1 .1 .1 .0) (g .free) (s .serialize .ensures) in
+    omega (arith, k .length .ensures, n, length-bytes (wordsOf l), g .short, b .pre .room)
 
 sub-serialize : tie.Need-sub-serialize
 sub-serialize c = search needs
@@ -45,10 +53,12 @@ length-requires : tie.Need-length-requires
 length-requires c κs = search needs
 
 cast-with : tie.Need-cast-with
-cast-with c = omega (arith, in-scratch c, c .before .before .before .before .before .before .before .before .pre .2)
+cast-with c = omega (arith, in-scratch c, c .before .before .before .before .before .before .before .before .pre .bounded)
 
 with-requires : tie.Need-with-requires
-with-requires c κs = (c .before .before .before .before .before .before .before .before .pre .0, omega (arith, in-scratch c, c .before .before .before .before .before .before .before .before .pre .2))
+with-requires c κs =
+    let p = c .before .before .before .before .before .before .before .before .pre in
+    (p .place, omega (arith, in-scratch c, p .bounded))
 
 same-length : tie.Need-same-length
 same-length c = search needs
@@ -59,7 +69,8 @@ returns c =
     let s = k .before .before .before in
     let b = s .before .before .before .before .before in
     let a = b .args in
-    pushed (lookupOf (a .flags) (a .kind) (a .glyphs .now) (a .substitutes .now)) (a .mask) (a .draft) (a .scratch .now) (b .pre .1) (s .serialize .result) (s .serialize .last .1 .1 .1 .1 .0) (b .pre .3) (s .serialize .ensures) (b .pre .0) (c .with .result) (c .with .ensures ∙ ap (noted (a .draft) (a .mask)) (k .length .ensures))
+    let g = fit (s .before .before) in
+    pushed (lookupOf (a .flags) (a .kind) (a .glyphs .now) (a .substitutes .now)) (a .mask) (a .draft) (a .scratch .now) (g .inside) (s .serialize .result) (s .serialize .last .1 .1 .1 .1 .0) (g .free) (s .serialize .ensures) (b .pre .place) (most (a .kind)) (g .short) (c .with .result) (c .with .ensures ∙ ap (noted (a .draft) (a .mask)) (k .length .ensures))
 
 pub push-spec : {M : Type 1} → statement M
 push-spec =

@@ -1,2 +1,3 @@
 -- The laws of `fonts`.
 -- Assumes nothing.
+pub mod FontLaws

@@ -1,0 +1,32 @@
+-- `fonts::glyph_for_codepoint` meets its contract.
+-- Assumes nothing.
+use Rattle.fonts.proofs.FontLaws.{usable-glyph, large-glyph, no-glyph}
+use borrow.Author.Needs.{needs}
+use Rattle.fonts.proofs.glyph_for_codepoint.Statement.{statement}
+use Rattle.fonts.proofs.glyph_for_codepoint.Tie as tie
+use Rattle.fonts.proofs.glyph_for_codepoint.Reads as reads
+use Rattle.fonts.proofs.glyph_for_codepoint.Lts as lts
+use Rattle.fonts.proofs.nominal_glyph.Reads as nominal-glyph-reads
+
+nominal-glyph-requires : tie.Need-nominal-glyph-requires
+nominal-glyph-requires c κs = search needs
+
+enum-known-glyph : tie.Need-enum-known-glyph
+enum-known-glyph c = search needs
+
+enum-told : tie.Need-enum-told
+enum-told c = search needs
+
+returns : tie.Need-returns
+returns c = large-glyph (c .before .before .before .before .nominal-glyph .ensures) (c .before .before .glyph .given .1) (c .if1 .taken)
+
+returns-2 : tie.Need-returns-2
+returns-2 c = usable-glyph (c .before .before .before .before .nominal-glyph .ensures) (c .before .before .glyph .given .1) (c .if1 .left)
+
+returns-3 : tie.Need-returns-3
+returns-3 c = no-glyph (c .before .before .nominal-glyph .ensures) (c .enum-told .given .1)
+
+pub glyph-for-codepoint-spec : {M : Type 1} → statement M
+glyph-for-codepoint-spec =
+    tie.close
+    (tie.spec nominal-glyph-requires enum-known-glyph enum-told returns returns-2 returns-3)

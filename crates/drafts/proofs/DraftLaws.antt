@@ -1,21 +1,26 @@
--- Drafts: one without entries (`begun-drafted`); a lookup that is written behind the others is an entry more (`written-part`, `pushed`); nothing added (`none-added`).
+-- Drafts: one without entries (`begun-drafted`); a lookup that is written behind the others is an entry more (`written-part`, `pushed`); nothing added (`none-added`). How far a plan has come, which is made of several lookups (`Reached`, `reached-begin`, `reached-more`), and what is asked of the next (`reached-fit`); the entry of rules that are listed in two columns (`rules-added`).
 -- Assumes nothing.
 use mathlib.Core.Path.{_≡_, refl, sym, ap, _∙_}
+use mathlib.Core.Bool.{Bool, true, cond, or-false}
 use mathlib.Core.List.{List, [], _∷_, _++_, append-assoc, append-nil}
 use Prim.Native.Nat.{ℕ, suc, _+_, _*_, _-_, _<_, _≤_}
 use native.Mathlib.Omega.{arith}
+use borrow.Author.Tests.{ne-eqb}
+use lib.Dec.{eqb}
 use lib.ListN.{length, take, drop, length-append, length-drop}
 use lib.Seq.{take-at, take-all, length-take-le}
 use borrow.Rule.Slice.PartMut.{midOf, putMid, postOf}
 use Rattle.refusals.proofs.LeftLaws.{left-number, left-accepted}
 use Rattle.words.specs.Words.{bytes}
 use Rattle.words.proofs.WordLaws.{length-bytes}
+use Rattle.layouts.specs.declared.Kind.{Kind}
 use Rattle.layouts.specs.declared.Written.{Written}
-use Rattle.layouts.specs.Lookups.{Lookup, wordsOf}
+use Rattle.layouts.specs.Tables.{Rule}
+use Rattle.layouts.specs.Lookups.{Lookup, lookupOf, width, known, flat, ligatures, wordsOf}
 use Rattle.layouts.specs.Written.{Outcome, outcome, writeRefusal, numberSaid, lengthSaid, Writing}
 use Rattle.drafts.specs.declared.Draft.{Draft}
-use Rattle.drafts.specs.Entries.{Entry, sizeOf, bytesOf, allBytes}
-use Rattle.drafts.specs.Drafted.{begun, noted, Drafted, Added}
+use Rattle.drafts.specs.Entries.{Entry, entry, sizeOf, bytesOf, allBytes, ruleLimit, most}
+use Rattle.drafts.specs.Drafted.{begun, noted, Drafted, Fit, Added}
 use Rattle.drafts.proofs.EntryLaws.{all-more, pad-more}
 
 pub begun-drafted : (scratch : List ℕ) → Drafted [] begun scratch
@@ -85,3 +90,34 @@ module _ (l : Lookup) (mask : ℕ) (d : Draft) (scratch : List ℕ) (h : d .end 
               holds = there ∙ rw (p .holds) (sym (all-more es new));
             };
       })
+
+-- ---- one lookup behind the other
+-- a draft has these entries, at most so many, of at most so many bytes, in memory of a certain size
+pub record Reached (entries : List Entry) (count bytes size : ℕ) (d : Draft) (scratch : List ℕ) : Type 0 where
+  pub few : d .count ≤ count
+  pub short : d .end ≤ bytes
+  pub sized : length scratch ≡ size
+  pub drafted : Drafted entries d scratch
+
+pub reached-begin : (d : Draft) (scratch : List ℕ) → d ≡ begun → Reached [] 0 0 (length scratch) d scratch
+reached-begin d scratch e = rw e (record { few = omega arith; short = omega arith; sized = refl; drafted = begun-drafted scratch })
+
+module _ {entries : List Entry} {count b size : ℕ} {d : Draft} {scratch : List ℕ} (p : Reached entries count b size d scratch) where
+  pub reached-more :
+      {new : List Entry} {bound : ℕ} {d′ : Draft} {scratch′ : List ℕ} → Added new bound d scratch d′ scratch′ → length scratch′ ≡ length scratch
+      → Reached (entries ++ new) (count + 1) (b + bound) size d′ scratch′
+  reached-more a e = record { few = omega (arith, p .few, a .few); short = omega (arith, p .short, a .short); sized = e ∙ p .sized; drafted = a .then entries (p .drafted) }
+
+  pub reached-fit :
+      count < 7 → (kind : Kind) → b + most kind ≤ size → size < 4294967296 → known kind ≡ true
+      → (glyphs substitutes : List ℕ) → length glyphs ≡ length substitutes * width kind → length substitutes ≤ ruleLimit → Fit kind glyphs substitutes d scratch
+  reached-fit c kind h s k glyphs substitutes e f =
+      record { place = omega (arith, p .few); room = omega (arith, p .short, p .sized); bounded = omega (arith, p .sized); named = k; even = e; few = f }
+
+-- "zero masks skipped": where there are rules, only the mask decides
+pub rules-added :
+    (mask flags : ℕ) (kind : Kind) (rules : List Rule) → 0 < length rules → (glyphs substitutes : List ℕ) → flat rules ≡ glyphs → ligatures rules ≡ substitutes
+    → {bound : ℕ} {d d′ : Draft} {scratch scratch′ : List ℕ}
+    → Added (cond (eqb mask 0) [] (record { mask = mask; lookup = lookupOf flags kind glyphs substitutes } ∷ [])) bound d scratch d′ scratch′
+    → Added (entry mask flags kind rules) bound d scratch d′ scratch′
+rules-added mask flags kind rules h glyphs substitutes e f a = rw (ne-eqb (length rules) 0 (λ z. omega arith), or-false (eqb mask 0), e, f) a

@@ -8,7 +8,7 @@ ghost use Rattle.laws.specs.Lists.{pasted};
 ghost use Rattle.copying.specs.Pasted.{pastedAll, EvenLine, Roomy};
 
 // Copies `s` bytes of a column from `i` on to another from `o` on. The next two do the same for numbers of 32 bits: there is no function over a type.
-fn copy_bytes(from: &[u8], i: usize, s: usize, to: &mut [u8], o: usize)
+pub fn copy_bytes(from: &[u8], i: usize, s: usize, to: &mut [u8], o: usize)
     requires { ⌜ (i + s ≤ length (now from)) × (o + s ≤ length (now to)) ⌝ }
     ensures { λ _. ⌜ now (to .exit) ≡ pasted (slice i (i + s) (now (from .entry))) o (now (to .entry)) ⌝ }
 {

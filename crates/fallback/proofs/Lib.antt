@@ -1,0 +1,3 @@
+-- The laws of `fallback`.
+-- Assumes nothing.
+pub mod SettleLaws

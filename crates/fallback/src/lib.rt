@@ -1,0 +1,102 @@
+// Fallback: the public call that makes a plan of lookups for a font that has none of its own, and the one that says whether there is to be one.
+ghost use mathlib.Core.Path.{_≡_};
+ghost use mathlib.Core.List.{[]};
+ghost use Prim.Native.Nat.{_≤_};
+ghost use lib.ListN.{length};
+ghost use Rattle.laws.specs.Rows.{first};
+ghost use Rattle.refusals.specs.Numbers.{said};
+ghost use Rattle.fallback.specs.Plan.{inputsOf};
+ghost use Rattle.fallback.specs.Planned.{refusedBy, lentRows, Settles};
+ghost use Rattle.fallback.specs.Switch.{fallbackOn};
+use drafts::Draft;
+use refusals::Refusal;
+use refusals::Verdict;
+
+// Rows of a rule list, at most.
+const RULE_LIMIT: usize = 1024;
+
+// A plan: its entries, each a mask and how many bytes its lookup has; or why there is none, with zeros.
+pub struct FallbackPlan {
+    pub verdict: Verdict,
+    pub count: usize,
+    pub masks: [u32; 7],
+    pub lengths: [u32; 7],
+}
+
+impl FallbackPlan {
+    // No plan, for this reason.
+    fn refused(verdict: Verdict) -> FallbackPlan
+        ensures { λ r. ⌜ r ≡ refusedBy verdict ⌝ }
+    {
+        FallbackPlan {
+            verdict: verdict,
+            count: 0,
+            masks: [0; 7],
+            lengths: [0; 7],
+        }
+    }
+}
+
+// The answer of a draft: its bytes at the start of the area, if they go in.
+fn settle(draft: Draft, scratch: &[u8], area: &mut [u8]) -> FallbackPlan
+    requires { ⌜ draft .end ≤ length (now scratch) ⌝ }
+    ensures { λ r. ⌜ Settles draft (now (scratch .entry)) (now (area .entry)) r (now (area .exit)) ⌝ }
+{
+    let n = draft.end;
+    if area.len() < n {
+        return FallbackPlan::refused(Verdict::Refused(Refusal::NoRoom));
+    }
+    copying::copy_bytes(scratch, 0, n, area, 0);
+    let masks = draft.masks;
+    let lengths = draft.lengths;
+    FallbackPlan {
+        verdict: Verdict::Accepted,
+        count: draft.count,
+        masks: masks,
+        lengths: lengths,
+    }
+}
+
+// When a plan is refused, whatever the area.
+fn refused(
+    codes: &[u32],
+    glyphs: &[u32],
+    shaping: &[u16],
+    forms: &[u16],
+    three_components: &[u16],
+    three_ligatures: &[u16],
+    two_components: &[u16],
+    two_ligatures: &[u16],
+    mark_components: &[u16],
+    mark_ligatures: &[u16],
+) -> Verdict
+    ensures { λ r. ⌜ said r ≡ first (lentRows (inputsOf [] (now (codes .entry)) (now (glyphs .entry)) (now (shaping .entry)) (now (forms .entry)) (now («three_components» .entry)) (now («three_ligatures» .entry)) (now («two_components» .entry)) (now («two_ligatures» .entry)) (now («mark_components» .entry)) (now («mark_ligatures» .entry)))) ⌝ }
+{
+    let even = (codes.len() == glyphs.len())
+        & (ligatures::flat(forms.len(), shaping.len(), 4)
+            & (ligatures::flat(three_components.len(), three_ligatures.len(), 3)
+                & (ligatures::flat(two_components.len(), two_ligatures.len(), 2)
+                    & ligatures::flat(mark_components.len(), mark_ligatures.len(), 2))));
+    let short = (shaping.len() <= RULE_LIMIT)
+        & ((three_ligatures.len() <= RULE_LIMIT)
+            & ((two_ligatures.len() <= RULE_LIMIT) & (mark_ligatures.len() <= RULE_LIMIT)));
+    let uneven = refusals::unless(even, Refusal::Uneven);
+    let long = refusals::unless(short, Refusal::TooLong);
+    let falling = refusals::rising(codes);
+    uneven.sooner(long.sooner(falling))
+}
+
+// Which features of the Arabic script a font leaves to the fallback.
+pub struct Needs {
+    pub isol: bool,
+    pub fina: bool,
+    pub medi: bool,
+    pub init: bool,
+}
+
+// Whether the fallback is used.
+pub fn do_fallback(arabic: bool, needs: Needs) -> bool
+    ensures { λ r. ⌜ r ≡ fallbackOn arabic needs ⌝ }
+{
+    arabic & (needs.isol & (needs.fina & (needs.medi & needs.init)))
+}

@@ -58,6 +58,7 @@ pack-bound cs l f = go cs (fits-first l cs f .1)
   where
     small : l < 65536
     small = fits-first l cs f .0
+
     go : (cs : List ℕ) → fits cs ≡ true → length cs ≤ 3 → packed cs l < 18446744073709551616
     go [] g h = omega (arith, small)
     go (a ∷ []) g h = omega (arith, small, fits-first a [] g .0)

@@ -81,7 +81,7 @@ unpacking-starts n rules components ligatures h g =
       room = omega (arith, length-components n rules);
       room-ligatures = g;
       parts = refl;
-      parts-ligatures = refl
+      parts-ligatures = refl;
     }
 
 module _ {n : ℕ} {rules components₀ ligatures₀ components ligatures : List ℕ} {i at : ℕ} (u : Unpacking n rules components₀ ligatures₀ components ligatures i at) where
@@ -132,9 +132,10 @@ module _ {n : ℕ} {rules components₀ ligatures₀ components ligatures : List
     pub unpacking-ends :
         (components ≡ componentsOf n rules ++ drop (length rules * n) components₀) × (ligatures ≡ ligaturesOf n rules ++ drop (length rules) ligatures₀)
     unfolding pasted flat
-    unpacking-ends =
-        (ends components at (componentsOf n rules) components₀ (length rules * n) (length-components n rules) (ap (λ (l : List ℕ). pasted (componentsOf n l) at components) (sym none-left) ∙ u .parts),
-        ends ligatures i (ligaturesOf n rules) ligatures₀ (length rules) (length-ligatures n rules) (ap (λ (l : List ℕ). pasted (ligaturesOf n l) i ligatures) (sym none-left) ∙ u .parts-ligatures))
+    unpacking-ends = (
+      ends components at (componentsOf n rules) components₀ (length rules * n) (length-components n rules) (ap (λ (l : List ℕ). pasted (componentsOf n l) at components) (sym none-left) ∙ u .parts),
+      ends ligatures i (ligaturesOf n rules) ligatures₀ (length rules) (length-ligatures n rules) (ap (λ (l : List ℕ). pasted (ligaturesOf n l) i ligatures) (sym none-left) ∙ u .parts-ligatures),
+    )
       where
         ends : (now : List ℕ) (k : ℕ) (P start : List ℕ) (m : ℕ) → length P ≡ m → pasted [] k now ≡ pasted P 0 start → now ≡ P ++ drop m start
         ends now k P start m s e =

@@ -1,70 +1,60 @@
+-- `packing::unpack` meets its contract: the rules that are unpacked and those still to be unpacked are all. The measure is what is left of them.
+-- Assumes nothing.
+use Prim.Native.Nat.{_-_}
+use native.Mathlib.Omega.{arith}
+use borrow.Author.Needs.{needs}
+use lib.ListN.{length}
+use Rattle.packing.proofs.UnpackLaws.{Unpacking, unpacking-starts, unpacking-room, unpacking-next, unpacking-ends}
 use Rattle.packing.proofs.unpack.Statement.{statement}
 use Rattle.packing.proofs.unpack.Tie as tie
-use Rattle.packing.proofs.unpack.Reads as reads
-use Rattle.packing.proofs.unpack.Lts as lts
-use Rattle.packing.proofs.put_digits.Reads as put-digits-reads
 
 abbrev Inv-loop : tie.InvT-loop
-Inv-loop n rules components₀ ligatures₀ i₀ at₀ components ligatures i at = ?
+Inv-loop n rules components₀ ligatures₀ i₀ at₀ components ligatures i at = Unpacking n rules components₀ ligatures₀ components ligatures i at
 
 abbrev μ-loop : tie.MeasureT-loop
-μ-loop n rules components₀ ligatures₀ i₀ at₀ components ligatures i at = ?
+μ-loop n rules components₀ ligatures₀ i₀ at₀ components ligatures i at = length rules - i
 
--- src/lib.rt:36:5
 loop-holds : tie.Need-loop-holds Inv-loop μ-loop
-loop-holds c = ?
+loop-holds c = let s = c .before .before .before in unpacking-starts _ _ _ _ (s .pre .0) (s .pre .1)
 
--- src/lib.rt:37:38
 mul-put-digits : tie.Need-mul-put-digits Inv-loop μ-loop
-mul-put-digits c = ?
+mul-put-digits c = search needs
 
--- src/lib.rt:37:38
 shared-slice-read-put-digits : tie.Need-shared-slice-read-put-digits Inv-loop μ-loop
-shared-slice-read-put-digits c = ?
+shared-slice-read-put-digits c = search needs
 
--- src/lib.rt:37:13
 put-digits-requires : tie.Need-put-digits-requires Inv-loop μ-loop
-put-digits-requires c κs = ?
+put-digits-requires c κs = let t = c .before .before in unpacking-room (t .before .loop .inv) (t .loop-test .taken)
 
--- src/lib.rt:38:24
 cast-ligatures : tie.Need-cast-ligatures Inv-loop μ-loop
-cast-ligatures c = ?
+cast-ligatures c = search needs
 
--- src/lib.rt:38:9
 mul-ligatures : tie.Need-mul-ligatures Inv-loop μ-loop
-mul-ligatures c = ?
+mul-ligatures c = search needs
 
--- src/lib.rt:38:9
 slice-write-ligatures : tie.Need-slice-write-ligatures Inv-loop μ-loop
-slice-write-ligatures c = ?
+slice-write-ligatures c = search needs
 
--- src/lib.rt:39:9
 add-at : tie.Need-add-at Inv-loop μ-loop
-add-at c = ?
+add-at c = let t = c .before .before .before .before .before in omega (arith, unpacking-room (t .before .loop .inv) (t .loop-test .taken))
 
--- src/lib.rt:40:9
 add-i : tie.Need-add-i Inv-loop μ-loop
-add-i c = ?
+add-i c = search needs
 
--- src/lib.rt:36:5
 loop-less : tie.Need-loop-less Inv-loop μ-loop
-loop-less c = ?
+loop-less c = search needs
 
--- src/lib.rt:36:5
 loop-again : tie.Need-loop-again Inv-loop μ-loop
-loop-again c = ?
+loop-again c = let t = c .before .before .before .before .before in unpacking-next (t .before .loop .inv) (t .loop-test .taken) _ _ (c .before .before .put-digits .ensures)
 
--- src/lib.rt:29:1
 same-length : tie.Need-same-length Inv-loop μ-loop
-same-length c = ?
+same-length c = search needs
 
--- src/lib.rt:29:1
 same-length-2 : tie.Need-same-length-2 Inv-loop μ-loop
-same-length-2 c = ?
+same-length-2 c = search needs
 
--- src/lib.rt:29:1
 returns : tie.Need-returns Inv-loop μ-loop
-returns c = ?
+returns c = unpacking-ends (c .before .loop .inv) (c .loop-test .left)
 
 pub unpack-spec : {M : Type 1} → statement M
 unpack-spec =

@@ -1,2 +1,4 @@
 -- The laws of `packing`.
 -- Assumes nothing.
+pub mod PackLaws
+pub mod UnpackLaws

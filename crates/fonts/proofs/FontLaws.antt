@@ -1,4 +1,4 @@
--- A font's map: codes that rise, by their places (`rising-lt`); the glyph at a place, and none (`glyph-at`, `glyph-none`); the search by halving, whose loop knows that codes before one place are below the code sought, and codes from another on above it (`Halving`, `halving-begins`, `halving-up`, `halving-down`, `halving-finds`, `halving-ends`); glyphs that a rule may use (`usable-glyph`, `large-glyph`, `no-glyph`); that a search has one answer (`found-once`).
+-- A font's map: codes that rise, by their places (`rising-lt`); the glyph at a place, and none (`glyph-at`, `glyph-none`); the search by halving, whose loop knows that codes before one place are below the code sought, and codes from another on above it (`Halving`, `halving-begins`, `halving-up`, `halving-down`, `halving-finds`, `halving-ends`); glyphs that a rule may use (`usable-glyph`, `large-glyph`, `no-glyph`), and what they say (`glyph-told`, `glyph-missing`); that a search has one answer (`found-once`).
 -- Assumes nothing.
 use mathlib.Core.Path.{_≡_, refl, sym, ap, _∙_}
 use mathlib.Core.Bool.{Bool, true, false}
@@ -11,7 +11,7 @@ use lib.Dec.{ltb}
 use lib.ListN.{length, getD}
 use Rattle.refusals.specs.Columns.{rising}
 use Rattle.refusals.proofs.ColumnLaws.{rising-at}
-use Rattle.fonts.specs.Font.{fontOf, Sound, absent, glyphAmong, glyphOf, numberFound}
+use Rattle.fonts.specs.Font.{fontOf, Sound, absent, glyphAmong, numberFound}
 use Rattle.letters.specs.declared.Glyph.{Glyph}
 use Rattle.fonts.specs.declared.Found.{Found}
 use Rattle.fonts.specs.declared.Found.the-variants.{At, Absent}
@@ -122,6 +122,22 @@ module _ {f : Found} {n : ℕ} (e : numberFound f ≡ n) where
   no-glyph p =
       let z : absent ≡ n = sym (ap numberFound p) ∙ e in
       sym (min-eq-right (omega arith))
+
+-- what that glyph says of the font's own
+module _ {n g : ℕ} (e : g ≡ min n 65536) where
+  either : (t : Bool) → ltb n 65536 ≡ t → (g ≤ 65535 → g ≡ n) × (65535 < g → 65536 ≤ n)
+  either true p =
+      let z : g ≡ n = e ∙ min-eq-left (omega (arith, ltb-true n 65536 p)) in
+      (λ h. z, λ h. omega arith)
+  either false p =
+      let z : g ≡ 65536 = e ∙ min-eq-right (ltb-false n 65536 p) in
+      (λ h. absurd (omega arith), λ h. ltb-false n 65536 p)
+
+  pub glyph-told : g ≤ 65535 → g ≡ n
+  glyph-told = either (ltb n 65536) refl .0
+
+  pub glyph-missing : 65535 < g → 65536 ≤ n
+  glyph-missing = either (ltb n 65536) refl .1
 
 -- ---- one answer, since a glyph is of 32 bits
 abbrev pub Small : Found → Type 0

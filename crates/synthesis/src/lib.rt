@@ -1,1 +1,127 @@
 // Synthesis: rows of codes made the rules of a lookup in a font, in order, as the columns that a writer takes.
+ghost use mathlib.Core.Path.{_≡_};
+ghost use Prim.Native.Nat.{_+_, _*_, _≤_, _<_};
+ghost use lib.ListN.{length};
+ghost use Rattle.laws.specs.Lists.{pasted};
+ghost use Rattle.layouts.specs.declared.Kind.the-variants.{Single, Ligature};
+ghost use Rattle.fonts.specs.Font.{fontOf, Sound};
+ghost use Rattle.synthesis.specs.Rules.{rows, ruled, kindOf};
+ghost use Rattle.synthesis.specs.Made.{packedIn, rowOf, gives, pair, Collected};
+
+// What a row gives: a rule as one number, or none.
+pub enum Row {
+    Rule(u64),
+    Dropped,
+}
+
+// The rule of a shaping row. A form 0 costs no search.
+fn single_rule(codes: &[u32], glyphs: &[u32], code: u16, form: u16) -> Row
+    requires { ⌜ Sound (fontOf (now codes) (now glyphs)) ⌝ }
+    ensures { λ r. ⌜ packedIn r ≡ gives (fontOf (now (codes .entry)) (now (glyphs .entry))) Single (pair code form) ⌝ }
+{
+    if form == 0 {
+        return Row::Dropped;
+    }
+    let target = fonts::glyph_for_codepoint(codes, glyphs, form);
+    if 65535 < target {
+        return Row::Dropped;
+    }
+    let glyph = fonts::glyph_for_codepoint(codes, glyphs, code);
+    if 65535 < glyph {
+        return Row::Dropped;
+    }
+    if glyph == target {
+        return Row::Dropped;
+    }
+    Row::Rule(target as u64 * 65536 + glyph as u64)
+}
+
+// The rule of a row whose components begin at place `at`: the last component is packed first, so that the first is in the lowest bits.
+fn ligature_rule(
+    codes: &[u32],
+    glyphs: &[u32],
+    n: usize,
+    components: &[u16],
+    at: usize,
+    ligature: u16,
+) -> Row
+    requires { ⌜ Sound (fontOf (now codes) (now glyphs)) × (n ≤ 3) × (at + n ≤ length (now components)) ⌝ }
+    ensures { λ r. ⌜ packedIn r ≡ gives (fontOf (now (codes .entry)) (now (glyphs .entry))) (Ligature n) (rowOf n (now (components .entry)) at ligature) ⌝ }
+{
+    let whole = fonts::glyph_for_codepoint(codes, glyphs, ligature);
+    if 65535 < whole {
+        return Row::Dropped;
+    }
+    let mut x = whole as u64;
+    let mut k = n;
+    while 0 < k {
+        k -= 1;
+        let part = fonts::glyph_for_codepoint(codes, glyphs, components[at + k]);
+        if 65535 < part {
+            return Row::Dropped;
+        }
+        x = x * 65536 + part as u64;
+    }
+    Row::Rule(x)
+}
+
+// The rule of a row of `n` components, which begin at place `at`.
+fn rule_of(
+    codes: &[u32],
+    glyphs: &[u32],
+    n: usize,
+    components: &[u16],
+    at: usize,
+    ligature: u16,
+) -> Row
+    requires { ⌜ Sound (fontOf (now codes) (now glyphs)) × (1 ≤ n) × (n ≤ 3) × (at + n ≤ length (now components)) ⌝ }
+    ensures { λ r. ⌜ packedIn r ≡ gives (fontOf (now (codes .entry)) (now (glyphs .entry))) (kindOf n) (rowOf n (now (components .entry)) at ligature) ⌝ }
+{
+    if n == 1 {
+        return single_rule(codes, glyphs, components[at], ligature);
+    }
+    ligature_rule(codes, glyphs, n, components, at, ligature)
+}
+
+// Puts what a row gives at place `at` of the rules; the place behind it.
+fn keep(row: Row, rules: &mut [u64], at: usize) -> usize
+    requires { ⌜ at < length (now rules) ⌝ }
+    ensures { λ r. ⌜ (now (rules .exit) ≡ pasted (packedIn row) at (now (rules .entry))) × (r ≡ at + length (packedIn row)) ⌝ }
+{
+    match row {
+        Row::Rule(x) => {
+            rules[at] = x;
+            at + 1
+        }
+        Row::Dropped => at,
+    }
+}
+
+// The rules of `count` rows from the start of `rules` on, in the rows' order; how many they are. A row has `n` components, and one of `each` numbers of the other column, that at place `k`.
+pub fn collect(
+    codes: &[u32],
+    glyphs: &[u32],
+    count: usize,
+    n: usize,
+    each: usize,
+    k: usize,
+    components: &[u16],
+    ligatures: &[u16],
+    rules: &mut [u64],
+) -> usize
+    requires { ⌜ Sound (fontOf (now codes) (now glyphs)) × (1 ≤ n) × (n ≤ 3) × (k < each) × (count * n ≤ length (now components)) × (count * each ≤ length (now ligatures)) × (count ≤ length (now rules)) ⌝ }
+    ensures { λ r. ⌜ Collected (ruled (fontOf (now (codes .entry)) (now (glyphs .entry))) (kindOf n) (rows count n each k (now (components .entry)) (now (ligatures .entry)))) (now (rules .entry)) r (now (rules .exit)) ⌝ }
+{
+    let mut left = count;
+    let mut c = 0;
+    let mut l = 0;
+    let mut made = 0;
+    while 0 < left {
+        let row = rule_of(codes, glyphs, n, components, c, ligatures[l + k]);
+        made = keep(row, rules, made);
+        c += n;
+        l += each;
+        left -= 1;
+    }
+    made
+}

@@ -1,0 +1,3 @@
+-- What the contracts of `adding` cite.
+-- Assumes nothing.
+pub mod Source

@@ -1,0 +1,149 @@
+// Adding: the lookup of a list of rows, added to a draft. Rows are made rules, each one number; these are put into order and laid out as the columns that a writer takes.
+ghost use mathlib.Core.Path.{_≡_};
+ghost use Prim.Native.Nat.{_≤_};
+ghost use lib.ListN.{length};
+ghost use Rattle.fonts.specs.Font.{fontOf, Sound};
+ghost use Rattle.synthesis.specs.Rules.{kindOf};
+ghost use Rattle.synthesis.specs.Made.{Collected};
+ghost use Rattle.drafts.specs.Entries.{entry, most};
+ghost use Rattle.drafts.specs.Drafted.{Added};
+ghost use Rattle.adding.specs.Source.{sourceOf, Lent, rulesOf, entryOf, Roomy};
+use drafts::Draft;
+use layouts::Kind;
+
+// The rules of rows in order, from the start of `rules` on; how many they are. `room` is as long as `rules`, and is lent for the work.
+fn order_rules(
+    codes: &[u32],
+    glyphs: &[u32],
+    count: usize,
+    n: usize,
+    each: usize,
+    k: usize,
+    components: &[u16],
+    ligatures: &[u16],
+    rules: &mut [u64],
+    room: &mut [u64],
+) -> usize
+    requires { ⌜ Sound (fontOf (now codes) (now glyphs)) × Lent (sourceOf count n each k (now components) (now ligatures)) × (count ≤ length (now rules)) × (count ≤ length (now room)) ⌝ }
+    ensures { λ r. ⌜ Collected (rulesOf (fontOf (now (codes .entry)) (now (glyphs .entry))) (sourceOf count n each k (now (components .entry)) (now (ligatures .entry)))) (now (rules .entry)) r (now (rules .exit)) ⌝ }
+{
+    let made = synthesis::collect(
+        codes,
+        glyphs,
+        count,
+        n,
+        each,
+        k,
+        components,
+        ligatures,
+        rules,
+    );
+    ordering::sort(&mut rules[..made], &mut room[..made]);
+    made
+}
+
+// The kind of a lookup whose rules replace `n` glyphs.
+fn kind_of(n: usize) -> Kind
+    requires { ⌜ n ≤ 3 ⌝ }
+    ensures { λ r. ⌜ r ≡ kindOf n ⌝ }
+{
+    if n == 1 {
+        return Kind::Single;
+    }
+    Kind::Ligature(n as u8)
+}
+
+// The lookup of rows, in memory lent for 1,024 rules.
+fn synthesize_in(
+    draft: Draft,
+    mask: u32,
+    flags: u16,
+    codes: &[u32],
+    glyphs: &[u32],
+    count: usize,
+    n: usize,
+    each: usize,
+    k: usize,
+    components: &[u16],
+    ligatures: &[u16],
+    rules: &mut [u64],
+    room: &mut [u64],
+    firsts: &mut [u16],
+    seconds: &mut [u16],
+    scratch: &mut [u8],
+) -> Draft
+    requires { ⌜ Sound (fontOf (now codes) (now glyphs)) × Lent (sourceOf count n each k (now components) (now ligatures)) × Roomy (kindOf n) draft (now scratch) × (length (now rules) ≡ 1024) × (length (now room) ≡ 1024) × (length (now firsts) ≡ 3072) × (length (now seconds) ≡ 1024) ⌝ }
+    ensures { λ r. ⌜ Added (entryOf mask flags (kindOf n) (rulesOf (fontOf (now (codes .entry)) (now (glyphs .entry))) (sourceOf count n each k (now (components .entry)) (now (ligatures .entry))))) (most (kindOf n)) draft (now (scratch .entry)) r (now (scratch .exit)) ⌝ }
+{
+    let made = order_rules(
+        codes,
+        glyphs,
+        count,
+        n,
+        each,
+        k,
+        components,
+        ligatures,
+        rules,
+        room,
+    );
+    if made == 0 {
+        return draft;
+    }
+    packing::unpack(n, &rules[..made], firsts, seconds);
+    let wide = made * n;
+    drafts::push(
+        draft,
+        mask,
+        kind_of(n),
+        flags,
+        &firsts[..wide],
+        &seconds[..made],
+        scratch,
+    )
+}
+
+// Adds the lookup of rows, unless it has no mask or no rule is left.
+pub fn synthesize_lookup(
+    draft: Draft,
+    mask: u32,
+    flags: u16,
+    codes: &[u32],
+    glyphs: &[u32],
+    count: usize,
+    n: usize,
+    each: usize,
+    k: usize,
+    components: &[u16],
+    ligatures: &[u16],
+    scratch: &mut [u8],
+) -> Draft
+    requires { ⌜ Sound (fontOf (now codes) (now glyphs)) × Lent (sourceOf count n each k (now components) (now ligatures)) × Roomy (kindOf n) draft (now scratch) ⌝ }
+    ensures { λ r. ⌜ Added (entry mask flags (kindOf n) (rulesOf (fontOf (now (codes .entry)) (now (glyphs .entry))) (sourceOf count n each k (now (components .entry)) (now (ligatures .entry))))) (most (kindOf n)) draft (now (scratch .entry)) r (now (scratch .exit)) ⌝ }
+{
+    if mask == 0 {
+        return draft;
+    }
+    let mut rules = [0u64; 1024];
+    let mut room = [0u64; 1024];
+    let mut firsts = [0u16; 3072];
+    let mut seconds = [0u16; 1024];
+    synthesize_in(
+        draft,
+        mask,
+        flags,
+        codes,
+        glyphs,
+        count,
+        n,
+        each,
+        k,
+        components,
+        ligatures,
+        &mut rules,
+        &mut room,
+        &mut firsts,
+        &mut seconds,
+        scratch,
+    )
+}

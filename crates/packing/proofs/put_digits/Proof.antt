@@ -1,7 +1,6 @@
 -- `packing::put_digits` meets its contract: what is put and what is still to be put are the digits of the number. The measure is how many are left.
 -- Assumes nothing.
 use mathlib.Core.Path.{refl}
-use native.Mathlib.Omega.{arith}
 use borrow.Author.Needs.{needs}
 use Rattle.packing.proofs.UnpackLaws.{Putting, putting-next, putting-ends}
 use Rattle.packing.proofs.put_digits.Statement.{statement}

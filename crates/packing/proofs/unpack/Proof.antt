@@ -15,7 +15,9 @@ abbrev μ-loop : tie.MeasureT-loop
 μ-loop n rules components₀ ligatures₀ i₀ at₀ components ligatures i at = length rules - i
 
 loop-holds : tie.Need-loop-holds Inv-loop μ-loop
-loop-holds c = let s = c .before .before .before in unpacking-starts _ _ _ _ (s .pre .0) (s .pre .1)
+loop-holds c =
+    let s = c .before .before .before in
+    unpacking-starts _ _ _ _ (s .pre .0) (s .pre .1)
 
 mul-put-digits : tie.Need-mul-put-digits Inv-loop μ-loop
 mul-put-digits c = search needs
@@ -24,7 +26,9 @@ shared-slice-read-put-digits : tie.Need-shared-slice-read-put-digits Inv-loop μ
 shared-slice-read-put-digits c = search needs
 
 put-digits-requires : tie.Need-put-digits-requires Inv-loop μ-loop
-put-digits-requires c κs = let t = c .before .before in unpacking-room (t .before .loop .inv) (t .loop-test .taken)
+put-digits-requires c κs =
+    let t = c .before .before in
+    unpacking-room (t .before .loop .inv) (t .loop-test .taken)
 
 cast-ligatures : tie.Need-cast-ligatures Inv-loop μ-loop
 cast-ligatures c = search needs
@@ -36,7 +40,9 @@ slice-write-ligatures : tie.Need-slice-write-ligatures Inv-loop μ-loop
 slice-write-ligatures c = search needs
 
 add-at : tie.Need-add-at Inv-loop μ-loop
-add-at c = let t = c .before .before .before .before .before in omega (arith, unpacking-room (t .before .loop .inv) (t .loop-test .taken))
+add-at c =
+    let t = c .before .before .before .before .before in
+    omega (arith, unpacking-room (t .before .loop .inv) (t .loop-test .taken))
 
 add-i : tie.Need-add-i Inv-loop μ-loop
 add-i c = search needs
@@ -45,7 +51,9 @@ loop-less : tie.Need-loop-less Inv-loop μ-loop
 loop-less c = search needs
 
 loop-again : tie.Need-loop-again Inv-loop μ-loop
-loop-again c = let t = c .before .before .before .before .before in unpacking-next (t .before .loop .inv) (t .loop-test .taken) _ _ (c .before .before .put-digits .ensures)
+loop-again c =
+    let t = c .before .before .before .before .before in
+    unpacking-next (t .before .loop .inv) (t .loop-test .taken) _ _ (c .before .before .put-digits .ensures)
 
 same-length : tie.Need-same-length Inv-loop μ-loop
 same-length c = search needs

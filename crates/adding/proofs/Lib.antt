@@ -1,2 +1,4 @@
 -- The laws of `adding`.
 -- Assumes nothing.
+pub mod OrderedLaws
+pub mod PushedLaws

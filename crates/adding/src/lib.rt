@@ -1,8 +1,11 @@
 // Adding: the lookup of a list of rows, added to a draft. Rows are made rules, each one number; these are put into order and laid out as the columns that a writer takes.
 ghost use mathlib.Core.Path.{_≡_};
+ghost use mathlib.Core.List.{[], _∷_, map};
 ghost use Prim.Native.Nat.{_≤_};
 ghost use lib.ListN.{length};
+ghost use Rattle.layouts.specs.Lookups.{listed};
 ghost use Rattle.fonts.specs.Font.{fontOf, Sound};
+ghost use Rattle.packing.specs.Packed.{unpacked};
 ghost use Rattle.synthesis.specs.Rules.{kindOf};
 ghost use Rattle.synthesis.specs.Made.{Collected};
 ghost use Rattle.drafts.specs.Entries.{entry, most};
@@ -53,6 +56,34 @@ fn kind_of(n: usize) -> Kind
     Kind::Ligature(n as u8)
 }
 
+// Adds the lookup of rules of `n` components, which are one number each; in columns lent for 1,024 rules.
+fn push_rules(
+    draft: Draft,
+    mask: u32,
+    flags: u16,
+    n: usize,
+    rules: &[u64],
+    firsts: &mut [u16],
+    seconds: &mut [u16],
+    scratch: &mut [u8],
+) -> Draft
+    requires { ⌜ (1 ≤ n) × (n ≤ 3) × (length (now rules) ≤ 1024) × (length (now firsts) ≡ 3072) × (length (now seconds) ≡ 1024) × Roomy (kindOf n) draft (now scratch) ⌝ }
+    ensures { λ r. ⌜ Added (record { mask = mask; lookup = listed flags (kindOf n) (map (unpacked n) (now (rules .entry))) } ∷ []) (most (kindOf n)) draft (now (scratch .entry)) r (now (scratch .exit)) ⌝ }
+{
+    packing::unpack(n, rules, firsts, seconds);
+    let made = rules.len();
+    let wide = made * n;
+    drafts::push(
+        draft,
+        mask,
+        kind_of(n),
+        flags,
+        &firsts[..wide],
+        &seconds[..made],
+        scratch,
+    )
+}
+
 // The lookup of rows, in memory lent for 1,024 rules.
 fn synthesize_in(
     draft: Draft,
@@ -90,15 +121,14 @@ fn synthesize_in(
     if made == 0 {
         return draft;
     }
-    packing::unpack(n, &rules[..made], firsts, seconds);
-    let wide = made * n;
-    drafts::push(
+    push_rules(
         draft,
         mask,
-        kind_of(n),
         flags,
-        &firsts[..wide],
-        &seconds[..made],
+        n,
+        &rules[..made],
+        firsts,
+        seconds,
         scratch,
     )
 }

@@ -1,5 +1,6 @@
 -- `fonts::glyph_for_codepoint` meets its contract.
 -- Assumes nothing.
+use native.Mathlib.Omega.{arith}
 use Rattle.fonts.proofs.FontLaws.{usable-glyph, large-glyph, no-glyph}
 use borrow.Author.Needs.{needs}
 use Rattle.fonts.proofs.glyph_for_codepoint.Statement.{statement}
@@ -18,10 +19,10 @@ enum-told : tie.Need-enum-told
 enum-told c = search needs
 
 returns : tie.Need-returns
-returns c = large-glyph (c .before .before .before .before .nominal-glyph .ensures) (c .before .before .glyph .given .1) (c .if1 .taken)
+returns c = large-glyph (c .before .before .before .before .nominal-glyph .ensures) (c .before .before .glyph .given .1) (omega (arith, c .if1 .taken))
 
 returns-2 : tie.Need-returns-2
-returns-2 c = usable-glyph (c .before .before .before .before .nominal-glyph .ensures) (c .before .before .glyph .given .1) (c .if1 .left)
+returns-2 c = usable-glyph (c .before .before .before .before .nominal-glyph .ensures) (c .before .before .glyph .given .1) (omega (arith, c .if1 .left))
 
 returns-3 : tie.Need-returns-3
 returns-3 c = no-glyph (c .before .before .nominal-glyph .ensures) (c .enum-told .given .1)

@@ -27,7 +27,7 @@ fits :
 fits c =
     let l = c .before in
     let a = l .before .before .before .before .before .before .args in
-    collecting-fits (fontOf (a .codes .now) (a .glyphs .now)) (a .count) (a .n) (a .each) (a .k) (a .components .now) (a .ligatures .now) (a .rules .now) (l .loop .left) (l .loop .c) (l .loop .l) (l .loop .made) (l .loop .rules) (l .loop .inv) (c .loop-test .taken)
+    collecting-fits (fontOf (a .codes .now) (a .glyphs .now)) (a .count) (a .n) (a .each) (a .k) (a .components .now) (a .ligatures .now) (a .rules .now) (l .loop .left) (l .loop .c) (l .loop .l) (l .loop .made) (l .loop .rules) (l .loop .inv) (omega (arith, c .loop-test .taken))
 
 loop-holds : tie.Need-loop-holds Inv-loop μ-loop
 loop-holds c =
@@ -72,7 +72,7 @@ loop-again c =
     let t = r .before .before in
     let l = t .before in
     let a = l .before .before .before .before .before .before .args in
-    collecting-next (fontOf (a .codes .now) (a .glyphs .now)) (a .count) (a .n) (a .each) (a .k) (a .components .now) (a .ligatures .now) (a .rules .now) (l .loop .left) (l .loop .c) (l .loop .l) (l .loop .made) (l .loop .rules) (l .loop .inv) (t .loop-test .taken) (r .rule-of .result) (r .rule-of .ensures) (e .keep .ensures)
+    collecting-next (fontOf (a .codes .now) (a .glyphs .now)) (a .count) (a .n) (a .each) (a .k) (a .components .now) (a .ligatures .now) (a .rules .now) (l .loop .left) (l .loop .c) (l .loop .l) (l .loop .made) (l .loop .rules) (l .loop .inv) (omega (arith, t .loop-test .taken)) (r .rule-of .result) (r .rule-of .ensures) (e .keep .ensures)
 
 same-length : tie.Need-same-length Inv-loop μ-loop
 same-length c = c .before .loop .inv .long
@@ -81,7 +81,7 @@ returns : tie.Need-returns Inv-loop μ-loop
 returns c =
     let l = c .before in
     let a = l .before .before .before .before .before .before .args in
-    collecting-ends (fontOf (a .codes .now) (a .glyphs .now)) (a .count) (a .n) (a .each) (a .k) (a .components .now) (a .ligatures .now) (a .rules .now) (l .loop .left) (l .loop .c) (l .loop .l) (l .loop .made) (l .loop .rules) (l .loop .inv) (c .loop-test .left)
+    collecting-ends (fontOf (a .codes .now) (a .glyphs .now)) (a .count) (a .n) (a .each) (a .k) (a .components .now) (a .ligatures .now) (a .rules .now) (l .loop .left) (l .loop .c) (l .loop .l) (l .loop .made) (l .loop .rules) (l .loop .inv) (omega (arith, c .loop-test .left))
 
 pub collect-spec : {M : Type 1} → statement M
 collect-spec =

@@ -26,14 +26,14 @@ next c =
     let l = t .before in
     let s = l .before .before .before .before .before .before in
     let a = s .args in
-    packing-next (fontOf (a .codes .now) (a .glyphs .now)) (a .n) (a .components .now) (a .at) (s .pre .2) (l .loop .inv) (l .loop .k - 1) (omega (arith, t .loop-test .taken)) (g .glyph-for-codepoint2 .ensures) (c .if2 .left)
+    packing-next (fontOf (a .codes .now) (a .glyphs .now)) (a .n) (a .components .now) (a .at) (s .pre .2) (l .loop .inv) (l .loop .k - 1) (omega (arith, t .loop-test .taken)) (g .glyph-for-codepoint2 .ensures) (omega (arith, c .if2 .left))
 
 bound : (c : tie.Else2 Inv-loop μ-loop) → c .before .before .before .before .loop .x * 65536 + c .before .glyph-for-codepoint2 .result < 18446744073709551616
 bound c =
     let e = c .before .before .before .before .before in
     let s = e .before .before .before .before .before in
     let a = s .args in
-    packing-fits (fontOf (a .codes .now) (a .glyphs .now)) (a .n) (a .components .now) (a .at) (s .pre .2) (next c) (e .if1 .left) (s .pre .1)
+    packing-fits (fontOf (a .codes .now) (a .glyphs .now)) (a .n) (a .components .now) (a .at) (s .pre .2) (next c) (omega (arith, e .if1 .left)) (s .pre .1)
 
 glyph-for-codepoint-requires : tie.Need-glyph-for-codepoint-requires Inv-loop μ-loop
 glyph-for-codepoint-requires c κs = c .before .before .before .pre .0
@@ -42,7 +42,7 @@ returns : tie.Need-returns Inv-loop μ-loop
 returns c =
     let g = c .before in
     let a = g .before .before .before .before .args in
-    ligature-missing (fontOf (a .codes .now) (a .glyphs .now)) (a .n) (a .components .now) (a .at) (a .ligature) (g .glyph-for-codepoint .ensures) (c .if1 .taken)
+    ligature-missing (fontOf (a .codes .now) (a .glyphs .now)) (a .n) (a .components .now) (a .at) (a .ligature) (g .glyph-for-codepoint .ensures) (omega (arith, c .if1 .taken))
 
 cast-x : tie.Need-cast-x Inv-loop μ-loop
 cast-x c = omega arith
@@ -76,7 +76,7 @@ returns-2 c =
     let l = t .before in
     let s = l .before .before .before .before .before .before in
     let a = s .args in
-    packing-stops (fontOf (a .codes .now) (a .glyphs .now)) (a .n) (a .components .now) (a .at) (s .pre .2) (l .loop .inv) (l .loop .k - 1) (omega (arith, t .loop-test .taken)) (g .glyph-for-codepoint2 .ensures) (a .ligature) (c .if2 .taken)
+    packing-stops (fontOf (a .codes .now) (a .glyphs .now)) (a .n) (a .components .now) (a .at) (s .pre .2) (l .loop .inv) (l .loop .k - 1) (omega (arith, t .loop-test .taken)) (g .glyph-for-codepoint2 .ensures) (a .ligature) (omega (arith, c .if2 .taken))
 
 mul-x : tie.Need-mul-x Inv-loop μ-loop
 mul-x c = omega (arith, bound c)
@@ -100,7 +100,7 @@ returns-3 c =
     let g = e .before in
     let s = g .before .before .before .before in
     let a = s .args in
-    packing-ends (fontOf (a .codes .now) (a .glyphs .now)) (a .n) (a .components .now) (a .at) (s .pre .2) (l .loop .inv) (a .ligature) (c .loop-test .left) (g .glyph-for-codepoint .ensures) (e .if1 .left)
+    packing-ends (fontOf (a .codes .now) (a .glyphs .now)) (a .n) (a .components .now) (a .at) (s .pre .2) (l .loop .inv) (a .ligature) (omega (arith, c .loop-test .left)) (g .glyph-for-codepoint .ensures) (omega (arith, e .if1 .left))
 
 pub ligature-rule-spec : {M : Type 1} → statement M
 ligature-rule-spec =

@@ -1,5 +1,6 @@
 -- `synthesis::single_rule` meets its contract.
 -- Assumes nothing.
+use native.Mathlib.Omega.{arith}
 use Rattle.fonts.specs.Font.{fontOf}
 use Rattle.synthesis.proofs.RowLaws.{single-zero, single-no-form, single-no-glyph, single-equal, single-made}
 use borrow.Author.Needs.{needs}
@@ -22,7 +23,7 @@ returns-2 c =
     let g = c .before in
     let e = g .before in
     let a = e .before .before .before .args in
-    single-no-form (fontOf (a .codes .now) (a .glyphs .now)) (a .code) (a .form) (e .if1 .left) (g .glyph-for-codepoint .ensures) (c .if2 .taken)
+    single-no-form (fontOf (a .codes .now) (a .glyphs .now)) (a .code) (a .form) (e .if1 .left) (g .glyph-for-codepoint .ensures) (omega (arith, c .if2 .taken))
 
 glyph-for-codepoint-requires-2 : tie.Need-glyph-for-codepoint-requires-2
 glyph-for-codepoint-requires-2 c κs = search needs
@@ -34,7 +35,7 @@ returns-3 c =
     let g = l .before in
     let e = g .before in
     let a = e .before .before .before .args in
-    single-no-glyph (fontOf (a .codes .now) (a .glyphs .now)) (a .code) (a .form) (e .if1 .left) (g .glyph-for-codepoint .ensures) (l .if2 .left) (d .glyph-for-codepoint2 .ensures) (c .if3 .taken)
+    single-no-glyph (fontOf (a .codes .now) (a .glyphs .now)) (a .code) (a .form) (e .if1 .left) (g .glyph-for-codepoint .ensures) (omega (arith, l .if2 .left)) (d .glyph-for-codepoint2 .ensures) (omega (arith, c .if3 .taken))
 
 returns-4 : tie.Need-returns-4
 returns-4 c =
@@ -44,7 +45,7 @@ returns-4 c =
     let g = l .before in
     let e = g .before in
     let a = e .before .before .before .args in
-    single-equal (fontOf (a .codes .now) (a .glyphs .now)) (a .code) (a .form) (e .if1 .left) (g .glyph-for-codepoint .ensures) (l .if2 .left) (d .glyph-for-codepoint2 .ensures) (m .if3 .left) (c .if4 .taken)
+    single-equal (fontOf (a .codes .now) (a .glyphs .now)) (a .code) (a .form) (e .if1 .left) (g .glyph-for-codepoint .ensures) (omega (arith, l .if2 .left)) (d .glyph-for-codepoint2 .ensures) (omega (arith, m .if3 .left)) (c .if4 .taken)
 
 cast-t8 : tie.Need-cast-t8
 cast-t8 c = search needs
@@ -66,7 +67,7 @@ returns-5 c =
     let g = l .before in
     let e = g .before in
     let a = e .before .before .before .args in
-    single-made (fontOf (a .codes .now) (a .glyphs .now)) (a .code) (a .form) (e .if1 .left) (g .glyph-for-codepoint .ensures) (l .if2 .left) (d .glyph-for-codepoint2 .ensures) (m .if3 .left) (c .if4 .left)
+    single-made (fontOf (a .codes .now) (a .glyphs .now)) (a .code) (a .form) (e .if1 .left) (g .glyph-for-codepoint .ensures) (omega (arith, l .if2 .left)) (d .glyph-for-codepoint2 .ensures) (omega (arith, m .if3 .left)) (c .if4 .left)
 
 pub single-rule-spec : {M : Type 1} → statement M
 single-rule-spec =

@@ -17,27 +17,11 @@ use Rattle.layouts.proofs.FitLaws.{fits-head, fits-at}
 use Rattle.fonts.specs.Font.{Font, glyphOf}
 use Rattle.fonts.proofs.FontLaws.{glyph-told, glyph-missing}
 use Rattle.packing.specs.Packed.{packed}
+use Rattle.packing.proofs.PackLaws.{pack-bound}
 use Rattle.synthesis.specs.Rules.{kindOf, ruled}
 use Rattle.synthesis.specs.Made.{packedIn, rowOf, pair, gives}
 use Rattle.synthesis.specs.declared.Row.{Row}
 use Rattle.synthesis.specs.declared.Row.the-variants.{Rule as Held, Dropped}
-
--- a rule of at most three components is a number of 64 bits. (The same is packing.proofs.PackLaws.pack-bound: this copy goes once that is there.)
-pack-bound : (cs : List ℕ) (l : ℕ) → fits (l ∷ cs) ≡ true → length cs ≤ 3 → packed cs l < 18446744073709551616
-pack-bound [] l e h = omega (arith, fits-head l [] e .0)
-pack-bound (a ∷ []) l e h =
-    let p = fits-head l (a ∷ []) e in
-    omega (arith, p .0, fits-head a [] (p .1) .0)
-pack-bound (a ∷ (b ∷ [])) l e h =
-    let p = fits-head l (a ∷ (b ∷ [])) e in
-    let q = fits-head a (b ∷ []) (p .1) in
-    omega (arith, p .0, q .0, fits-head b [] (q .1) .0)
-pack-bound (a ∷ (b ∷ (c ∷ []))) l e h =
-    let p = fits-head l (a ∷ (b ∷ (c ∷ []))) e in
-    let q = fits-head a (b ∷ (c ∷ [])) (p .1) in
-    let r = fits-head b (c ∷ []) (q .1) in
-    omega (arith, p .0, q .0, r .0, fits-head c [] (r .1) .0)
-pack-bound (a ∷ (b ∷ (c ∷ (d ∷ cs)))) l e h = absurd (omega arith)
 
 -- ---- a shaping row
 module _ (f : Font) (code form : ℕ) where

@@ -1,3 +1,11 @@
+-- `adding::push_rules` meets its contract: the fronts of the two columns are those of the rules.
+-- Assumes nothing.
+use mathlib.Core.Path.{_≡_, sym}
+use Prim.Native.Nat.{_*_, _≤_}
+use native.Mathlib.Omega.{arith}
+use lib.ListN.{length, take}
+use lib.Seq.{length-take-le}
+use Rattle.adding.proofs.PushedLaws.{within, first-column, second-column, columns-fit, columns-added}
 use borrow.Author.Needs.{needs}
 use Rattle.adding.proofs.push_rules.Statement.{statement}
 use Rattle.adding.proofs.push_rules.Tie as tie
@@ -7,53 +15,69 @@ use Rattle.adding.proofs.kind_of.Reads as kind-of-reads
 use Rattle.drafts.proofs.push.Reads as push-reads
 use Rattle.packing.proofs.unpack.Reads as unpack-reads
 
--- src/lib.rt:73:5
+
+-- the columns have room for the rules
+wide-in : (b : tie.Start) → length (b .args .rules .now) * b .args .n ≤ 3072
+wide-in b = within (b .args .n) (b .args .rules .now) (b .pre .0) (b .pre .1) (b .pre .2)
+
+in-firsts : (u : tie.After-unpack) → length (u .before .before .before .before .before .before .before .args .rules .now) * u .before .before .before .before .before .before .before .args .n ≤ length (u .unpack .last .1 .1 .0)
+in-firsts u = omega (arith, wide-in (u .before .before .before .before .before .before .before), u .unpack .kept .1 .1 .0, u .before .before .before .before .before .before .before .pre .3)
+
+in-seconds : (u : tie.After-unpack) → length (u .before .before .before .before .before .before .before .args .rules .now) ≤ length (u .unpack .last .1 .1 .1 .0)
+in-seconds u = omega (arith, u .unpack .kept .1 .1 .1 .0, u .before .before .before .before .before .before .before .pre .2, u .before .before .before .before .before .before .before .pre .4)
+
 unpack-requires : tie.Need-unpack-requires
-unpack-requires c κs = ?
+unpack-requires c κs =
+    let b = c .before .before .before .before .before .before in
+    (omega (arith, wide-in b, b .pre .3), omega (arith, b .pre .2, b .pre .4))
 
--- src/lib.rt:75:16
 mul-wide : tie.Need-mul-wide
-mul-wide c = ?
+mul-wide c = omega (arith, wide-in (c .before .before .before .before .before .before .before .before .before .before .before))
 
--- src/lib.rt:79:9
 kind-of-requires : tie.Need-kind-of-requires
 kind-of-requires c κs = search needs
 
--- src/lib.rt:81:9
 slice-reshare-prefix-push : tie.Need-slice-reshare-prefix-push
-slice-reshare-prefix-push c = ?
+slice-reshare-prefix-push c = in-firsts (c .before .before .before .before .before)
 
--- src/lib.rt:81:9
 slice-aggregate-push : tie.Need-slice-aggregate-push
-slice-aggregate-push c = ?
+slice-aggregate-push c = sym (length-take-le _ _ (in-firsts (c .before .before .before .before .before .before)))
 
--- src/lib.rt:82:9
 slice-reshare-prefix-push-2 : tie.Need-slice-reshare-prefix-push-2
 slice-reshare-prefix-push-2 c = search needs
 
--- src/lib.rt:82:9
 slice-aggregate-push-2 : tie.Need-slice-aggregate-push-2
-slice-aggregate-push-2 c = ?
+slice-aggregate-push-2 c = sym (length-take-le _ _ (in-seconds (c .before .before .before .before .before .before .before)))
 
--- src/lib.rt:76:5
 push-requires : tie.Need-push-requires
-push-requires c κs = ?
+push-requires c κs =
+    let k = c .before .before .before in
+    let u = k .before .before .before .before .before in
+    let b = u .before .before .before .before .before .before .before in
+    let a = b .args in
+    let n = a .n in
+    let xs = a .rules .now in
+    columns-fit n xs (b .pre .0) (b .pre .1) (b .pre .2) (k .kind-of .result) (k .kind-of .ensures) (take (length xs * n) (u .unpack .last .1 .1 .0)) (take (length xs) (u .unpack .last .1 .1 .1 .0)) (first-column n xs (a .firsts .now) (u .unpack .last .1 .1 .0) (u .unpack .ensures .0)) (second-column n xs (a .seconds .now) (u .unpack .last .1 .1 .1 .0) (u .unpack .ensures .1)) (a .draft) (a .scratch .now) (b .pre .5)
 
--- src/lib.rt:60:1
 same-length : tie.Need-same-length
 same-length c = search needs
 
--- src/lib.rt:60:1
 same-length-2 : tie.Need-same-length-2
 same-length-2 c = search needs
 
--- src/lib.rt:60:1
 same-length-3 : tie.Need-same-length-3
 same-length-3 c = search needs
 
--- src/lib.rt:60:1
 returns : tie.Need-returns
-returns c = ?
+returns c =
+    let q = c .before .before in
+    let k = q .before .before .before .before in
+    let u = k .before .before .before .before .before in
+    let b = u .before .before .before .before .before .before .before in
+    let a = b .args in
+    let n = a .n in
+    let xs = a .rules .now in
+    columns-added n xs (b .pre .0) (b .pre .1) (b .pre .2) (k .kind-of .result) (k .kind-of .ensures) (take (length xs * n) (u .unpack .last .1 .1 .0)) (take (length xs) (u .unpack .last .1 .1 .1 .0)) (first-column n xs (a .firsts .now) (u .unpack .last .1 .1 .0) (u .unpack .ensures .0)) (second-column n xs (a .seconds .now) (u .unpack .last .1 .1 .1 .0) (u .unpack .ensures .1)) (a .draft) (a .scratch .now) (a .mask) (a .flags) (q .push .result) (q .push .last .1 .1 .1 .1 .1 .1 .0) (q .push .ensures)
 
 pub push-rules-spec : {M : Type 1} → statement M
 push-rules-spec =

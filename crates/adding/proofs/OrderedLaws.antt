@@ -1,4 +1,4 @@
--- The rules of rows, as numbers: each has its components and is of 16 bits (`Good`, `good-rules`, `good-order`), so the order of the numbers is that of the rules (`order-packed`), and the numbers are the rules again (`unpacked-all`); those that were collected, put into order (`ordered-collected`).
+-- The rules of rows, as numbers: each has its components and is of 16 bits (`Good`, `good-rules`, `good-order`), and there are no more of them than rows (`few-rules`, `few-order`). So the order of the numbers is that of the rules (`order-packed`), and the numbers are the rules again (`unpacked-all`); those that were collected, put into order (`ordered-collected`).
 -- Assumes nothing.
 use mathlib.Core.Path.{_≡_, refl, sym, ap, ap₂, _∙_}
 use mathlib.Core.Bool.{true}
@@ -46,6 +46,9 @@ module _ (f : Font) (s : Source) (p : Lent s) where
 
   pub few-rules : length found ≤ s .count
   few-rules = omega (arith, ruled-few f (kindOf (s .n)) (rows (s .count) (s .n) (s .each) (s .k) (s .components) (s .ligatures)), length-rows (s .count) (s .n) (s .each) (s .k) (s .components) (s .ligatures))
+
+  pub few-order : length (rulesOf f s) ≤ s .count
+  few-order = omega (arith, few-rules, length-sorted first found)
 
   order-packed : sorted low (map pack found) ≡ map pack (rulesOf f s)
   unfolding low

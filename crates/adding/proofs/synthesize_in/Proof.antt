@@ -1,3 +1,14 @@
+-- `adding::synthesize_in` meets its contract.
+-- Assumes nothing.
+use mathlib.Core.Path.{sym}
+use Prim.Native.Nat.{_≤_}
+use native.Mathlib.Omega.{arith}
+use lib.ListN.{length}
+use lib.Seq.{length-take-le}
+use Rattle.fonts.specs.Font.{Font, fontOf}
+use Rattle.adding.specs.Source.{Source, sourceOf}
+use Rattle.adding.proofs.OrderedLaws.{few-order}
+use Rattle.adding.proofs.PushedLaws.{none-left, rows-added}
 use borrow.Author.Needs.{needs}
 use Rattle.adding.proofs.synthesize_in.Statement.{statement}
 use Rattle.adding.proofs.synthesize_in.Tie as tie
@@ -6,57 +17,74 @@ use Rattle.adding.proofs.synthesize_in.Lts as lts
 use Rattle.adding.proofs.order_rules.Reads as order-rules-reads
 use Rattle.adding.proofs.push_rules.Reads as push-rules-reads
 
--- src/lib.rt:109:9
+
+abbrev font : tie.Start → Font
+font b = fontOf (b .args .codes .now) (b .args .glyphs .now)
+
+abbrev source : tie.Start → Source
+source b =
+    let a = b .args in
+    sourceOf (a .count) (a .n) (a .each) (a .k) (a .components .now) (a .ligatures .now)
+
+-- no more rules than rows
+few : (o : tie.After-order-rules) → o .order-rules .result ≤ 1024
+few o =
+    let b = o .before .before .before .before .before .before .before .before .before .before .before .before in
+    omega (arith, o .order-rules .ensures .counted, few-order (font b) (source b) (b .pre .1), b .pre .1 .few)
+
+in-rules : (o : tie.After-order-rules) → o .order-rules .result ≤ length (o .order-rules .last .1 .1 .1 .1 .1 .1 .1 .1 .0)
+in-rules o = omega (arith, few o, o .order-rules .kept .1 .1 .1 .1 .1 .1 .1 .1 .0, o .before .before .before .before .before .before .before .before .before .before .before .before .pre .3)
+
 order-rules-requires : tie.Need-order-rules-requires
 order-rules-requires c κs = search needs
 
--- src/lib.rt:122:9
 same-length : tie.Need-same-length
 same-length c = search needs
 
--- src/lib.rt:122:9
 same-length-2 : tie.Need-same-length-2
 same-length-2 c = search needs
 
--- src/lib.rt:122:9
 returns : tie.Need-returns
-returns c = ?
+returns c =
+    let o = c .before .before .before .before .before in
+    let b = o .before .before .before .before .before .before .before .before .before .before .before .before in
+    none-left (font b) (source b) (b .pre .1) (b .args .rules .now) (o .order-rules .last .1 .1 .1 .1 .1 .1 .1 .1 .0) (o .order-rules .result) (o .order-rules .ensures) (b .args .mask) (b .args .flags) (b .args .draft) (b .args .scratch .now) (c .if1 .taken)
 
--- src/lib.rt:129:9
 slice-reshare-prefix-push-rules : tie.Need-slice-reshare-prefix-push-rules
-slice-reshare-prefix-push-rules c = ?
+slice-reshare-prefix-push-rules c = in-rules (c .before .before .before .before .before)
 
--- src/lib.rt:129:9
 slice-aggregate-push-rules : tie.Need-slice-aggregate-push-rules
-slice-aggregate-push-rules c = ?
+slice-aggregate-push-rules c = sym (length-take-le _ _ (in-rules (c .before .before .before .before .before .before)))
 
--- src/lib.rt:124:5
 push-rules-requires : tie.Need-push-rules-requires
-push-rules-requires c κs = ?
+push-rules-requires c κs =
+    let o = c .before .before .before .before .before .before .before .before .before in
+    let b = o .before .before .before .before .before .before .before .before .before .before .before .before in
+    let n = length-take-le (o .order-rules .result) (o .order-rules .last .1 .1 .1 .1 .1 .1 .1 .1 .0) (in-rules o) in
+    (b .pre .1 .low, b .pre .1 .high, omega (arith, n, few o), b .pre .5, b .pre .6, b .pre .2)
 
--- src/lib.rt:88:1
 same-length-3 : tie.Need-same-length-3
 same-length-3 c = search needs
 
--- src/lib.rt:88:1
 same-length-4 : tie.Need-same-length-4
 same-length-4 c = search needs
 
--- src/lib.rt:88:1
 same-length-5 : tie.Need-same-length-5
 same-length-5 c = search needs
 
--- src/lib.rt:88:1
 same-length-6 : tie.Need-same-length-6
 same-length-6 c = search needs
 
--- src/lib.rt:88:1
 same-length-7 : tie.Need-same-length-7
 same-length-7 c = search needs
 
--- src/lib.rt:88:1
 returns-2 : tie.Need-returns-2
-returns-2 c = ?
+returns-2 c =
+    let q = c .before .before .before .before .before .before in
+    let e = q .before .before .before .before .before in
+    let o = e .before .before .before .before .before in
+    let b = o .before .before .before .before .before .before .before .before .before .before .before .before in
+    rows-added (font b) (source b) (b .pre .1) (b .args .rules .now) (o .order-rules .last .1 .1 .1 .1 .1 .1 .1 .1 .0) (o .order-rules .result) (o .order-rules .ensures) (b .args .mask) (b .args .flags) (b .args .draft) (b .args .scratch .now) (e .if1 .left) (q .push-rules .result) (q .push-rules .last .1 .1 .1 .1 .1 .1 .1 .0) (q .push-rules .ensures)
 
 pub synthesize-in-spec : {M : Type 1} → statement M
 synthesize-in-spec =

@@ -1,4 +1,4 @@
--- Drafts: one without entries (`begun-drafted`); a lookup that is written behind the others is an entry more (`written-part`, `pushed`); nothing added (`none-added`). How far a plan has come, which is made of several lookups (`Reached`, `reached-begin`, `reached-more`), and what is asked of the next (`reached-fit`); the entry of rules that are listed in two columns (`rules-added`).
+-- Drafts: one without entries (`begun-drafted`); a lookup that is written behind the others is an entry more (`written-part`, `pushed`); nothing added (`none-added`). How far a plan has come, which is made of several lookups (`reached-begin`, `reached-more`), and what is asked of the next (`reached-fit`); the entry of rules that are listed in two columns (`rules-added`).
 -- Assumes nothing.
 use mathlib.Core.Path.{_≡_, refl, sym, ap, _∙_}
 use mathlib.Core.Bool.{Bool, true, cond, or-false}
@@ -20,7 +20,7 @@ use Rattle.layouts.specs.Lookups.{Lookup, lookupOf, width, known, flat, ligatur
 use Rattle.layouts.specs.Written.{Outcome, outcome, writeRefusal, numberSaid, lengthSaid, Writing}
 use Rattle.drafts.specs.declared.Draft.{Draft}
 use Rattle.drafts.specs.Entries.{Entry, entry, sizeOf, bytesOf, allBytes, ruleLimit, most}
-use Rattle.drafts.specs.Drafted.{begun, noted, Drafted, Fit, Added}
+use Rattle.drafts.specs.Drafted.{begun, noted, Drafted, Reached, Fit, Added}
 use Rattle.drafts.proofs.EntryLaws.{all-more, pad-more}
 
 pub begun-drafted : (scratch : List ℕ) → Drafted [] begun scratch
@@ -92,13 +92,6 @@ module _ (l : Lookup) (mask : ℕ) (d : Draft) (scratch : List ℕ) (h : d .end 
       })
 
 -- ---- one lookup behind the other
--- a draft has these entries, at most so many, of at most so many bytes, in memory of a certain size
-pub record Reached (entries : List Entry) (count bytes size : ℕ) (d : Draft) (scratch : List ℕ) : Type 0 where
-  pub few : d .count ≤ count
-  pub short : d .end ≤ bytes
-  pub sized : length scratch ≡ size
-  pub drafted : Drafted entries d scratch
-
 pub reached-begin : (d : Draft) (scratch : List ℕ) → d ≡ begun → Reached [] 0 0 (length scratch) d scratch
 reached-begin d scratch e = rw e (record { few = omega arith; short = omega arith; sized = refl; drafted = begun-drafted scratch })
 

@@ -1,4 +1,4 @@
--- A plan while it is made: `begun` a draft without entries; `noted` a draft with an entry more; `Drafted` that a draft and the bytes beside it hold certain entries; `Fit` what is asked of a lookup that is to be added; `Added` that entries were added to whatever entries there were, with at most so many bytes.
+-- A plan while it is made: `begun` a draft without entries; `noted` a draft with an entry more; `Drafted` that a draft and the bytes beside it hold certain entries; `Reached` how far a plan has come that is made of several lookups; `Fit` what is asked of a lookup that is to be added; `Added` that entries were added to whatever entries there were, with at most so many bytes.
 -- Assumes nothing.
 use mathlib.Core.Path.{_≡_}
 use mathlib.Core.Bool.{true}
@@ -24,6 +24,13 @@ pub record Drafted (entries : List Entry) (d : Draft) (scratch : List ℕ) : Typ
   pub measured : d .lengths ≡ lengthsOf entries
   pub ends : d .end ≡ length (allBytes entries)
   pub holds : take (d .end) scratch ≡ allBytes entries
+
+-- a draft has these entries, at most so many, of at most so many bytes, in memory of a certain size
+pub record Reached (entries : List Entry) (count bytes size : ℕ) (d : Draft) (scratch : List ℕ) : Type 0 where
+  pub few : d .count ≤ count
+  pub short : d .end ≤ bytes
+  pub sized : length scratch ≡ size
+  pub drafted : Drafted entries d scratch
 
 -- there is a place for one more, room for any lookup of its kind, and the columns are those of a lookup of at most 1,024 rules
 pub record Fit (kind : Kind) (glyphs substitutes : List ℕ) (d : Draft) (scratch : List ℕ) : Type 0 where

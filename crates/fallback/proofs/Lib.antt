@@ -1,3 +1,4 @@
 -- The laws of `fallback`.
 -- Assumes nothing.
 pub mod SettleLaws
+pub mod UnicodeLaws

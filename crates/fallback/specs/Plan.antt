@@ -1,4 +1,4 @@
--- The fallback plan (document 01: "The plan follows 001's order, zero masks skipped"): `Ligatures`, `Inputs`, `inputsOf` what is lent; `shaped`, `ligated` the entry of a form, and that of a list of ligatures; `unicode` the seven entries by Unicode's presentation forms; `plan` the entries of a plan, Windows-1256 second.
+-- The fallback plan (document 01: "The plan follows 001's order, zero masks skipped"): `Ligatures`, `Inputs`, `inputsOf` what is lent; `formed`, `fourForms`, `shaped`, `ligated` the entry of a form, and that of a list of ligatures; `unicode` the seven entries by Unicode's presentation forms; `plan` the entries of a plan, Windows-1256 second.
 -- Assumes nothing.
 use mathlib.Core.Bool.{cond}
 use mathlib.Core.List.{List, [], _++_}
@@ -41,9 +41,16 @@ inputsOf masks codes glyphs shaping forms components3 ligatures3 components2 lig
     }
 
 -- "A shaping row has the forms init, medi, fina, isol": the lookup of form k, under the mask at the same place
+abbrev pub formed : List ℕ → Font → List ℕ → List ℕ → ℕ → List Entry
+formed masks f shaping forms k = entry (getD masks k 0) ignoreMarks Single (inOrder (ruled f Single (rows (length shaping) 1 4 k shaping forms)))
+
+-- those of all four forms
+abbrev pub fourForms : List ℕ → Font → List ℕ → List ℕ → List Entry
+fourForms masks f shaping forms =
+    formed masks f shaping forms 0 ++ (formed masks f shaping forms 1 ++ (formed masks f shaping forms 2 ++ formed masks f shaping forms 3))
+
 abbrev pub shaped : Inputs → ℕ → List Entry
-shaped i k =
-    entry (getD (i .masks) k 0) ignoreMarks Single (inOrder (ruled (i .font) Single (rows (length (i .shaping)) 1 4 k (i .shaping) (i .forms))))
+shaped i k = formed (i .masks) (i .font) (i .shaping) (i .forms) k
 
 -- a list of ligatures of n components
 abbrev pub ligated : Inputs → ℕ → ℕ → Ligatures → List Entry

@@ -1,4 +1,4 @@
--- The call that makes a plan: `flatBy`, `even`, `short`, `lentRows`, `planRows`, `planRefusal` when it is refused, and with which number; `Outcome`, `outcome`, `nothing`, `made` what is there afterwards; `refusedBy` the answer of a refusal; `Settled`, `Settles` the last step of it; `planAfter`, `Planning` what the call answers and leaves, of every input.
+-- The call that makes a plan: `flatBy`, `even`, `short`, `lentRows`, `planRows`, `planRefusal` when it is refused, and with which number; `Outcome`, `outcome`, `nothing`, `made` what is there afterwards; `refusedBy` the answer of a refusal; `Settled`, `Settles` the last step of it; `Passed` what is known where the tests are passed; `planAfter`, `Planning` what the call answers and leaves, of every input.
 -- Assumes nothing.
 use mathlib.Core.Path.{_≡_}
 use mathlib.Core.Bool.{Bool, not, _&&_}
@@ -91,6 +91,11 @@ Settled entries area r left =
 -- those of a draft
 abbrev pub Settles : Draft → List ℕ → List ℕ → FallbackPlan → List ℕ → Type 0
 Settles draft scratch area r left = (entries : List Entry) → Drafted entries draft scratch → Settled entries area r left
+
+-- what is asked of the columns, as the tests have it; and the memory for the bytes of the longest plan, four lookups of 4,114 bytes, one of 16,402 and two of 14,354
+pub record Passed (i : Inputs) (scratch : List ℕ) : Type 0 where
+  pub tested : first (lentRows i) ≡ 0
+  pub sized : length scratch ≡ 61566
 
 -- the statement of the call: lent these inputs and an area, it may answer r and leave the area `left`
 abbrev pub Planning : Inputs → List ℕ → FallbackPlan → List ℕ → Type 0

@@ -1,12 +1,14 @@
 // Fallback: the public call that makes a plan of lookups for a font that has none of its own, and the one that says whether there is to be one.
 ghost use mathlib.Core.Path.{_≡_};
 ghost use mathlib.Core.List.{[]};
-ghost use Prim.Native.Nat.{_≤_};
+ghost use Prim.Native.Nat.{_*_, _≤_};
 ghost use lib.ListN.{length};
 ghost use Rattle.laws.specs.Rows.{first};
 ghost use Rattle.refusals.specs.Numbers.{said};
-ghost use Rattle.fallback.specs.Plan.{inputsOf};
-ghost use Rattle.fallback.specs.Planned.{refusedBy, lentRows, Settles};
+ghost use Rattle.fonts.specs.Font.{fontOf, Sound};
+ghost use Rattle.drafts.specs.Drafted.{Reached};
+ghost use Rattle.fallback.specs.Plan.{inputsOf, fourForms, unicode, plan};
+ghost use Rattle.fallback.specs.Planned.{refusedBy, lentRows, Settled, Settles, Passed};
 ghost use Rattle.fallback.specs.Switch.{fallbackOn};
 use drafts::Draft;
 use refusals::Refusal;
@@ -14,6 +16,9 @@ use refusals::Verdict;
 
 // Rows of a rule list, at most.
 const RULE_LIMIT: usize = 1024;
+
+// Flags of a lookup that passes over marks.
+const IGNORE_MARKS: u16 = 8;
 
 // A plan: its entries, each a mask and how many bytes its lookup has; or why there is none, with zeros.
 pub struct FallbackPlan {
@@ -84,6 +89,143 @@ fn refused(
     let long = refusals::unless(short, Refusal::TooLong);
     let falling = refusals::rising(codes);
     uneven.sooner(long.sooner(falling))
+}
+
+// The lookups of the four forms of the shaping rows.
+fn add_forms(
+    masks: [u32; 5],
+    codes: &[u32],
+    glyphs: &[u32],
+    shaping: &[u16],
+    forms: &[u16],
+    scratch: &mut [u8],
+) -> Draft
+    requires { ⌜ Sound (fontOf (now codes) (now glyphs)) × (length (now forms) ≡ length (now shaping) * 4) × (length (now shaping) ≤ 1024) × (length (now scratch) ≡ 61566) ⌝ }
+    ensures { λ r. ⌜ Reached (fourForms masks (fontOf (now (codes .entry)) (now (glyphs .entry))) (now (shaping .entry)) (now (forms .entry))) 4 16456 61566 r (now (scratch .exit)) ⌝ }
+{
+    let mut draft = Draft::new();
+    let mut k = 0;
+    while k < 4 {
+        draft = adding::synthesize_lookup(
+            draft,
+            masks[k],
+            IGNORE_MARKS,
+            codes,
+            glyphs,
+            shaping.len(),
+            1,
+            4,
+            k,
+            shaping,
+            forms,
+            scratch,
+        );
+        k += 1;
+    }
+    draft
+}
+
+// The plan by Unicode's presentation forms: four lookups of forms, then those of the three lists of ligatures.
+fn new_unicode(
+    masks: [u32; 5],
+    codes: &[u32],
+    glyphs: &[u32],
+    shaping: &[u16],
+    forms: &[u16],
+    three_components: &[u16],
+    three_ligatures: &[u16],
+    two_components: &[u16],
+    two_ligatures: &[u16],
+    mark_components: &[u16],
+    mark_ligatures: &[u16],
+    scratch: &mut [u8],
+) -> Draft
+    requires { ⌜ Passed (inputsOf masks (now codes) (now glyphs) (now shaping) (now forms) (now «three_components») (now «three_ligatures») (now «two_components») (now «two_ligatures») (now «mark_components») (now «mark_ligatures»)) (now scratch) ⌝ }
+    ensures { λ r. ⌜ Reached (unicode (inputsOf masks (now (codes .entry)) (now (glyphs .entry)) (now (shaping .entry)) (now (forms .entry)) (now («three_components» .entry)) (now («three_ligatures» .entry)) (now («two_components» .entry)) (now («two_ligatures» .entry)) (now («mark_components» .entry)) (now («mark_ligatures» .entry)))) 7 61566 61566 r (now (scratch .exit)) ⌝ }
+{
+    let forms_in = add_forms(masks, codes, glyphs, shaping, forms, scratch);
+    let threes_in = adding::synthesize_lookup(
+        forms_in,
+        masks[4],
+        IGNORE_MARKS,
+        codes,
+        glyphs,
+        three_ligatures.len(),
+        3,
+        1,
+        0,
+        three_components,
+        three_ligatures,
+        scratch,
+    );
+    let twos_in = adding::synthesize_lookup(
+        threes_in,
+        masks[4],
+        IGNORE_MARKS,
+        codes,
+        glyphs,
+        two_ligatures.len(),
+        2,
+        1,
+        0,
+        two_components,
+        two_ligatures,
+        scratch,
+    );
+    adding::synthesize_lookup(
+        twos_in,
+        masks[4],
+        0,
+        codes,
+        glyphs,
+        mark_ligatures.len(),
+        2,
+        1,
+        0,
+        mark_components,
+        mark_ligatures,
+        scratch,
+    )
+}
+
+// The plan of columns that passed the tests: Unicode first, Windows-1256 second.
+fn plan_in(
+    masks: [u32; 5],
+    codes: &[u32],
+    glyphs: &[u32],
+    shaping: &[u16],
+    forms: &[u16],
+    three_components: &[u16],
+    three_ligatures: &[u16],
+    two_components: &[u16],
+    two_ligatures: &[u16],
+    mark_components: &[u16],
+    mark_ligatures: &[u16],
+    scratch: &mut [u8],
+    area: &mut [u8],
+) -> FallbackPlan
+    requires { ⌜ Passed (inputsOf masks (now codes) (now glyphs) (now shaping) (now forms) (now «three_components») (now «three_ligatures») (now «two_components») (now «two_ligatures») (now «mark_components») (now «mark_ligatures»)) (now scratch) ⌝ }
+    ensures { λ r. ⌜ Settled (plan (inputsOf masks (now (codes .entry)) (now (glyphs .entry)) (now (shaping .entry)) (now (forms .entry)) (now («three_components» .entry)) (now («three_ligatures» .entry)) (now («two_components» .entry)) (now («two_ligatures» .entry)) (now («mark_components» .entry)) (now («mark_ligatures» .entry)))) (now (area .entry)) r (now (area .exit)) ⌝ }
+{
+    let draft = new_unicode(
+        masks,
+        codes,
+        glyphs,
+        shaping,
+        forms,
+        three_components,
+        three_ligatures,
+        two_components,
+        two_ligatures,
+        mark_components,
+        mark_ligatures,
+        scratch,
+    );
+    if draft.count != 0 {
+        return settle(draft, scratch, area);
+    }
+    let direct = windows::new_win1256(masks, codes, glyphs, scratch);
+    settle(direct, scratch, area)
 }
 
 // Which features of the Arabic script a font leaves to the fallback.

@@ -15,7 +15,6 @@ use Rattle.adding.proofs.kind_of.Reads as kind-of-reads
 use Rattle.drafts.proofs.push.Reads as push-reads
 use Rattle.packing.proofs.unpack.Reads as unpack-reads
 
-
 -- the columns have room for the rules
 wide-in : (b : tie.Start) → length (b .args .rules .now) * b .args .n ≤ 3072
 wide-in b = within (b .args .n) (b .args .rules .now) (b .pre .0) (b .pre .1) (b .pre .2)

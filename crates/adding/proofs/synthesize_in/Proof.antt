@@ -17,7 +17,6 @@ use Rattle.adding.proofs.synthesize_in.Lts as lts
 use Rattle.adding.proofs.order_rules.Reads as order-rules-reads
 use Rattle.adding.proofs.push_rules.Reads as push-rules-reads
 
-
 abbrev font : tie.Start → Font
 font b = fontOf (b .args .codes .now) (b .args .glyphs .now)
 

@@ -9,7 +9,8 @@ use Rattle.layouts.specs.declared.Kind.the-variants.{Single, Ligature}
 use Rattle.layouts.specs.Lookups.{flat}
 use Rattle.drafts.specs.Features.{initOf, mediOf, finaOf, rligOf, ignoreMarks}
 use Rattle.drafts.specs.Entries.{Entry, entry, most}
-use Rattle.drafts.proofs.DraftLaws.{Reached, reached-begin, reached-more, reached-fit, rules-added}
+use Rattle.drafts.specs.Drafted.{Reached}
+use Rattle.drafts.proofs.DraftLaws.{reached-begin, reached-more, reached-fit, rules-added}
 use Rattle.windows.specs.Tables.{initial, medial, final, lamAlef, shadda}
 use borrow.Author.Needs.{needs}
 use Rattle.windows.proofs.add_tables.Statement.{statement}

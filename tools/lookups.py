@@ -1,5 +1,5 @@
-"""What tools/limits_single, tools/limits_ligature and tools/limits_read share beside tools/calls.py: what a writer gives by document 01, and the drawing
-of lists and areas."""
+"""What tools/limits_single, tools/limits_ligature, tools/limits_read and tools/limits_plan share beside tools/calls.py: what a writer gives by document 01,
+and the drawing of lists and areas."""
 
 from calls import *  # beside this file
 from rules import *

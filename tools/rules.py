@@ -1,6 +1,6 @@
 """Document 01's rules as the models of tools/ have them, written apart from the code: types, the resolving of X, joining by neighbours, the
-actions of selectors, masks, what replacing a letter alters, the reordering of marks, recording for stretching, stretching, and lookups, written and
-read back."""
+actions of selectors, masks, what replacing a letter alters, the reordering of marks, recording for stretching, stretching, lookups, written and
+read back, and the fallback plan."""
 
 import collections
 import itertools
@@ -335,3 +335,77 @@ def read(data):
     words = words_of(lookup)
     whole = len(lookup.glyphs) == len(lookup.substitutes) * (lookup.n or 1) and max(words) <= LAST_WORD and bytes_of(words) == bytes(data)
     return lookup if whole and all(x <= y for x, y in zip(firsts, firsts[1:])) else None
+
+
+IGNORE_MARKS = 8  # OpenType's flag of a lookup that passes over marks
+RULE_LIMIT = 1024  # "a rule list of the plan over 1,024 rows"
+MOST_LOOKUPS = 7  # "at most seven entries"
+LISTS = ((3, IGNORE_MARKS), (2, IGNORE_MARKS), (2, 0))  # "The ligature lists have N 3, 2, 2"; 001: only that of marks does not pass over marks
+
+# Windows-1256 as 001 has it: its signature, and its lists in their order, which is not to be sorted
+WINDOWS_SIGNATURE = {0x0627: 199, 0x0644: 225, 0x0649: 236, 0x064A: 237, 0x0652: 250}
+WINDOWS_INIT = (
+    "198-162 200-4 201-5 202-5 203-6 204-7 205-9 206-11 211-13 212-14 213-15 214-26 218-27 219-30 221-128 222-131 223-140 225-141 227-142 228-143 "
+    "229-144 236-154 237-154"
+)
+WINDOWS_MEDI = (
+    "165-170 178-179 180-185 198-162 200-4 201-5 202-5 203-6 204-7 205-9 206-11 211-13 212-14 213-15 214-26 218-28 219-31 221-129 222-138 223-140 "
+    "225-141 227-142 228-143 229-149 236-154 237-154 252-255"
+)
+WINDOWS_FINA = (
+    "165-170 178-179 180-185 194-2 195-1 197-3 198-181 199-0 201-159 204-8 205-10 206-12 218-29 219-127 229-152 236-160 237-156 252-255"
+)
+WINDOWS_LAM_ALEF = ([225, 199, 225, 195, 225, 194, 225, 197], [165, 178, 180, 252])
+WINDOWS_SHADDA = ([248, 243, 248, 245, 248, 246], [172, 173, 175])
+
+
+def by_first(rules):
+    """ "order is stable by first glyph"; a rule is its glyphs and what stands for them."""
+    return sorted(rules, key=lambda rule: rule[0][0])
+
+
+def found(font, rows):
+    """The rules that a font has of rows of codes: those of which it has every glyph. "Glyphs above 65,535 count as absent in rules"."""
+    glyph = lambda code: font[code] if font.get(code, LAST_WORD + 1) <= LAST_WORD else None
+    rules = [([glyph(code) for code in codes], glyph(ligature)) for codes, ligature in rows]
+    return [(glyphs, ligature) for glyphs, ligature in rules if None not in (*glyphs, ligature)]
+
+
+def columns_of_rules(rules):
+    return flat(glyphs for glyphs, _ in rules), [ligature for _, ligature in rules]
+
+
+def unicode_lookups(masks, font, shaping, lists):
+    """The masks and words of the plan's lookups, "zero masks skipped". A shaping row is a code and its "forms init, medi, fina, isol; only 0 means none", and
+    "equal glyph and form are dropped". What has no rule is no lookup."""
+    *of_forms, rlig = masks
+    for at, mask in enumerate(of_forms):
+        rules = [rule for rule in found(font, [([code], forms[at]) for code, forms in shaping if forms[at] != 0]) if rule[0] != [rule[1]]]
+        if mask and rules:
+            yield mask, single_words(IGNORE_MARKS, *columns_of_rules(by_first(rules)))
+    for (n, flags), rows in zip(LISTS, lists):
+        rules = found(font, rows)
+        if rlig and rules:
+            yield rlig, ligature_words(flags, n, *columns_of_rules(by_first(rules)))
+
+
+def windows_lookups(masks):
+    """ "its five lookups", in 001's order."""
+    init, medi, fina, _, rlig = masks
+    single = lambda text: single_words(IGNORE_MARKS, *zip(*([int(glyph) for glyph in rule.split("-")] for rule in text.split())))
+    lookups = [
+        (rlig, ligature_words(IGNORE_MARKS, 2, *WINDOWS_LAM_ALEF)),
+        (init, single(WINDOWS_INIT)),
+        (medi, single(WINDOWS_MEDI)),
+        (fina, single(WINDOWS_FINA)),
+        (rlig, ligature_words(0, 2, *WINDOWS_SHADDA)),
+    ]
+    return [(mask, words) for mask, words in lookups if mask]
+
+
+def planned(masks, font, shaping, lists):
+    """ "If no lookup results, the Windows-1256 signature is tested and its five lookups follow." """
+    lookups = list(unicode_lookups(masks, font, shaping, lists))
+    if not lookups and all(font.get(code) == glyph for code, glyph in WINDOWS_SIGNATURE.items()):
+        lookups = windows_lookups(masks)
+    return lookups

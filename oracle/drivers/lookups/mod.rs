@@ -112,7 +112,7 @@ pub fn put_limit(cases: &mut Cases, draw: &mut Draw, list: &List, fits: bool, in
 // ---- drawing
 
 /// An area before the call, of any bytes: as long as the answer, or longer by a few or by many.
-fn any_area(draw: &mut Draw, length: usize) -> Vec<u8> {
+pub fn any_area(draw: &mut Draw, length: usize) -> Vec<u8> {
     let more = match draw.below(16) {
         0..=5 => 0,
         6..=14 => draw.between(1, 4),

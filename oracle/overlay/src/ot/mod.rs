@@ -1,5 +1,5 @@
-//! Stands for ot/mod.rs, ot/layout.rs, ot/apply.rs and ot/lookup/mod.rs.
-pub mod map;
+//! Stands for ot/mod.rs, ot/layout.rs, ot/apply.rs and ot/lookup/mod.rs; map.rs is the Rust's own bytes, with a probe behind it.
+pub mod map { include!("map.rs"); include!("map_probe.rs"); }
 pub mod shaper;
 pub use crate::{buffer, Language, Mask, Script, Tag};
 use read_fonts::types::F2Dot14;

@@ -18,6 +18,8 @@ pub mod probe {
         let d = p.data::<ArabicShapePlan>();
         (d.mask_array, d.do_fallback, d.has_stch)
     }
+    /// whether the fallback is on, by the script and the map of a plan
+    pub fn fallback_of(p: &ShapePlan) -> bool { data_create_arabic(p).do_fallback }
     pub fn set_plan_data(p: &mut ShapePlan, d: ArabicShapePlan) { p.data = Some(Box::new(d)); }
     /// joining alone; false = an index failed
     pub fn joining(b: &mut Buffer) -> bool { arabic_joining(b).is_some() }

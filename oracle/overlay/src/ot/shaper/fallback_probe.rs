@@ -7,9 +7,7 @@ pub mod probe {
     pub fn plan(p: &ShapePlan, f: &ShaperFont<'_, '_>) -> Option<Vec<(u32, Vec<u8>)>> {
         FallbackPlan::new(p, f).map(|p| p.lookups.iter().map(|l| (l.mask, l.lookup.get().0.clone())).collect())
     }
-    pub fn rows() -> (usize, usize, usize, usize) { (SHAPING_TABLE.len(), LIGATURE_3_TABLE.len(), LIGATURE_TABLE.len(), LIGATURE_MARK_TABLE.len()) }
-    pub fn shaping() -> &'static [(u16, [u16; 4])] { SHAPING_TABLE }
-    pub fn lig3() -> &'static [([u16; 3], u16)] { LIGATURE_3_TABLE }
-    pub fn lig2() -> &'static [([u16; 2], u16)] { LIGATURE_TABLE }
-    pub fn ligm() -> &'static [([u16; 2], u16)] { LIGATURE_MARK_TABLE }
+    /// the plan, with the rule rows that this copy of the file is compiled over
+    pub const FALLBACK: crate::ot::shaper::Fallback =
+        crate::ot::shaper::Fallback { shaping: SHAPING_TABLE, three: LIGATURE_3_TABLE, two: LIGATURE_TABLE, marks: LIGATURE_MARK_TABLE, plan };
 }

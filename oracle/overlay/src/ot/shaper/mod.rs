@@ -34,20 +34,13 @@ pub mod arabic_table;
 pub mod arabic_table;
 pub mod arabic { include!("arabic.rs"); include!("arabic_probe.rs"); }
 pub mod arabic_fallback { include!("arabic_fallback.rs"); include!("fallback_probe.rs"); }
-/// the same fallback file over other rule rows (glyph 0, form 0, duplicates)
-pub mod alt {
-    pub mod arabic_table {
-        // codes equal; form equal to own code; form 0 = none; unsorted; all four
-        pub(crate) const SHAPING_TABLE: &[(u16, [u16; 4])] = &[
-            (0x0030, [0x0041, 0, 0, 0x0030]),
-            (0x0020, [0x0042, 0, 0x0050, 0]),
-            (0x0030, [0x0043, 0, 0, 0]),
-            (0x0000, [0x0044, 0, 0, 0]),
-            (0xFFFF, [0x0045, 0, 0, 0]),
-        ];
-        pub(crate) const LIGATURE_3_TABLE: &[([u16; 3], u16)] = &[([1, 2, 3], 4), ([0, 0, 0], 0)];
-        pub(crate) const LIGATURE_TABLE: &[([u16; 2], u16)] = &[([9, 2], 4), ([3, 2], 5), ([9, 3], 6), ([3, 2], 7), ([5, 5], 5)];
-        pub(crate) const LIGATURE_MARK_TABLE: &[([u16; 2], u16)] = &[];
-    }
-    pub mod arabic_fallback { include!("arabic_fallback.rs"); include!("fallback_probe.rs"); }
+pub mod alt;
+
+/// A copy of the fallback file: the rule rows that it is compiled over, and its plan, as masks with bytes.
+pub struct Fallback {
+    pub shaping: &'static [(u16, [u16; 4])],
+    pub three: &'static [([u16; 3], u16)],
+    pub two: &'static [([u16; 2], u16)],
+    pub marks: &'static [([u16; 2], u16)],
+    pub plan: fn(&ShapePlan, &ShaperFont<'_, '_>) -> Option<Vec<(u32, Vec<u8>)>>,
 }

@@ -1,4 +1,4 @@
--- Drafts: one without entries (`begun-drafted`); a lookup that is written behind the others is an entry more (`written-part`, `pushed`); nothing added (`none-added`). How far a plan has come, which is made of several lookups (`reached-begin`, `reached-more`), and what is asked of the next (`reached-fit`); the entry of rules that are listed in two columns (`rules-added`).
+-- Drafts: one without entries (`begun-drafted`); a lookup that is written behind the others is an entry more (`written-part`, `pushed`); nothing added (`none-added`); where the bytes of a draft end (`drafted-inside`). How far a plan has come, which is made of several lookups (`reached-begin`, `reached-more`), and what is asked of the next (`reached-fit`); the entry of rules that are listed in two columns (`rules-added`).
 -- Assumes nothing.
 use mathlib.Core.Path.{_≡_, refl, sym, ap, _∙_}
 use mathlib.Core.Bool.{Bool, true, cond, or-false}
@@ -7,7 +7,7 @@ use Prim.Native.Nat.{ℕ, suc, _+_, _*_, _-_, _<_, _≤_}
 use native.Mathlib.Omega.{arith}
 use borrow.Author.Tests.{ne-eqb}
 use lib.Dec.{eqb}
-use lib.ListN.{length, take, drop, length-append, length-drop}
+use lib.ListN.{length, take, drop, length-append, length-take, length-drop}
 use lib.Seq.{take-at, take-all, length-take-le}
 use borrow.Rule.Slice.PartMut.{midOf, putMid, postOf}
 use Rattle.refusals.proofs.LeftLaws.{left-number, left-accepted}
@@ -26,6 +26,10 @@ use Rattle.drafts.proofs.EntryLaws.{all-more, pad-more}
 pub begun-drafted : (scratch : List ℕ) → Drafted [] begun scratch
 unfolding allBytes
 begun-drafted scratch = record { counted = refl; masked = refl; measured = refl; ends = refl; holds = refl }
+
+-- the bytes of a draft are in what was lent
+pub drafted-inside : {entries : List Entry} (d : Draft) (scratch : List ℕ) → Drafted entries d scratch → d .end ≤ length scratch
+drafted-inside d scratch p = omega (arith, p .ends, ap length (p .holds), length-take (d .end) scratch)
 
 pub none-added : (most : ℕ) (d : Draft) (scratch : List ℕ) → Added [] most d scratch d scratch
 none-added most d scratch =

@@ -1,4 +1,4 @@
--- The call that makes a plan: `flatBy`, `even`, `short`, `lentRows`, `planRows`, `planRefusal` when it is refused, and with which number; `Outcome`, `outcome`, `nothing`, `made` what is there afterwards; `refusedBy` the answer of a refusal; `Settled`, `Settles` the last step of it; `Passed` what is known where the tests are passed; `planAfter`, `Planning` what the call answers and leaves, of every input.
+-- The call that makes a plan: `flatBy`, `even`, `short`, `lentRows`, `roomRow`, `planRows`, `planRefusal` when it is refused, and with which number; `Outcome`, `outcome`, `nothing`, `made` what is there afterwards; `refusedBy` the answer of a refusal; `Settled`, `Settles` the last step of it; `Passed` what is known where the tests are passed; `planAfter`, `Planning` what the call answers and leaves, of every input.
 -- Assumes nothing.
 use mathlib.Core.Path.{_≡_}
 use mathlib.Core.Bool.{Bool, not, _&&_}
@@ -46,14 +46,13 @@ lentRows i =
     Given 3 (not (rising 1 (i .font .codes))) ∷
     []
 
+-- "the lent output is shorter than the answer"
+abbrev pub roomRow : List Entry → ℕ → List Row
+roomRow entries room = Given 8 (ltb room (length (allBytes entries))) ∷ []
+
 -- all of its rows that the plan uses, for an area of so many bytes
 abbrev pub planRows : Inputs → ℕ → List Row
-planRows i room =
-    Given 1 (not (even i)) ∷
-    Given 2 (not (short i)) ∷
-    Given 3 (not (rising 1 (i .font .codes))) ∷
-    Given 8 (ltb room (length (allBytes (plan i)))) ∷
-    []
+planRows i room = lentRows i ++ roomRow (plan i) room
 
 unfoldable pub planRefusal : Inputs → ℕ → ℕ
 planRefusal i room = first (planRows i room)
@@ -86,7 +85,7 @@ planAfter i area = leaves (planRefusal i (length area)) (nothing area) (made (pl
 abbrev pub Settled : List Entry → List ℕ → FallbackPlan → List ℕ → Type 0
 Settled entries area r left =
     After (said (r .verdict)) (outcome (r .count) (r .masks) (r .lengths) left)
-    ≡ leaves (first (Given 8 (ltb (length area) (length (allBytes entries))) ∷ [])) (nothing area) (made entries area)
+    ≡ leaves (first (roomRow entries (length area))) (nothing area) (made entries area)
 
 -- those of a draft
 abbrev pub Settles : Draft → List ℕ → List ℕ → FallbackPlan → List ℕ → Type 0

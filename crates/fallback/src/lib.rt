@@ -8,7 +8,7 @@ ghost use Rattle.refusals.specs.Numbers.{said};
 ghost use Rattle.fonts.specs.Font.{fontOf, Sound};
 ghost use Rattle.drafts.specs.Drafted.{Reached};
 ghost use Rattle.fallback.specs.Plan.{inputsOf, fourForms, unicode, plan};
-ghost use Rattle.fallback.specs.Planned.{refusedBy, lentRows, Settled, Settles, Passed};
+ghost use Rattle.fallback.specs.Planned.{refusedBy, lentRows, Settled, Settles, Passed, Planning};
 ghost use Rattle.fallback.specs.Switch.{fallbackOn};
 use drafts::Draft;
 use refusals::Refusal;
@@ -39,6 +39,56 @@ impl FallbackPlan {
             masks: [0; 7],
             lengths: [0; 7],
         }
+    }
+
+    // Makes the plan of a font: lookups by the masks for init, medi, fina, isol and rlig, the font's map, the shaping rows, a code and four forms each, and the lists of ligatures of three components, of two, and of marks. Their bytes are put one behind the other at the start of the area.
+    pub fn new(
+        masks: [u32; 5],
+        codes: &[u32],
+        glyphs: &[u32],
+        shaping: &[u16],
+        forms: &[u16],
+        three_components: &[u16],
+        three_ligatures: &[u16],
+        two_components: &[u16],
+        two_ligatures: &[u16],
+        mark_components: &[u16],
+        mark_ligatures: &[u16],
+        area: &mut [u8],
+    ) -> FallbackPlan
+        ensures { λ r. ⌜ Planning (inputsOf masks (now (codes .entry)) (now (glyphs .entry)) (now (shaping .entry)) (now (forms .entry)) (now («three_components» .entry)) (now («three_ligatures» .entry)) (now («two_components» .entry)) (now («two_ligatures» .entry)) (now («mark_components» .entry)) (now («mark_ligatures» .entry))) (now (area .entry)) r (now (area .exit)) ⌝ }
+    {
+        let verdict = refused(
+            codes,
+            glyphs,
+            shaping,
+            forms,
+            three_components,
+            three_ligatures,
+            two_components,
+            two_ligatures,
+            mark_components,
+            mark_ligatures,
+        );
+        if verdict.number() != 0 {
+            return FallbackPlan::refused(verdict);
+        }
+        let mut scratch = [0u8; 61566];
+        plan_in(
+            masks,
+            codes,
+            glyphs,
+            shaping,
+            forms,
+            three_components,
+            three_ligatures,
+            two_components,
+            two_ligatures,
+            mark_components,
+            mark_ligatures,
+            &mut scratch,
+            area,
+        )
     }
 }
 

@@ -20,7 +20,6 @@ use Rattle.fallback.proofs.new_unicode.Lts as lts
 use Rattle.adding.proofs.synthesize_lookup.Reads as synthesize-lookup-reads
 use Rattle.fallback.proofs.add_forms.Reads as add-forms-reads
 
-
 abbrev inputs : tie.Start → Inputs
 inputs b =
     let a = b .args in

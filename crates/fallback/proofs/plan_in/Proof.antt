@@ -17,7 +17,6 @@ use Rattle.fallback.proofs.new_unicode.Reads as new-unicode-reads
 use Rattle.fallback.proofs.settle.Reads as settle-reads
 use Rattle.windows.proofs.new_win1256.Reads as new-win1256-reads
 
-
 abbrev inputs : tie.Start → Inputs
 inputs b =
     let a = b .args in

@@ -11,6 +11,9 @@ ghost use Rattle.drafts.specs.Drafted.{begun, noted, Fit, Added};
 use layouts::Kind;
 use layouts::Written;
 
+// Flags of a lookup that passes over marks.
+pub const IGNORE_MARKS: u16 = 8;
+
 // The entries so far: their masks, how many bytes each lookup has, and where the bytes of the last end.
 pub struct Draft {
     pub count: usize,

@@ -17,8 +17,8 @@ use refusals::Verdict;
 // Rows of a rule list, at most.
 const RULE_LIMIT: usize = 1024;
 
-// Flags of a lookup that passes over marks.
-const IGNORE_MARKS: u16 = 8;
+// Flags of a lookup that replaces marks, and passes over nothing.
+const NO_FLAGS: u16 = 0;
 
 // A plan: its entries, each a mask and how many bytes its lookup has; or why there is none, with zeros.
 pub struct FallbackPlan {
@@ -159,7 +159,7 @@ fn add_forms(
         draft = adding::synthesize_lookup(
             draft,
             masks[k],
-            IGNORE_MARKS,
+            drafts::IGNORE_MARKS,
             codes,
             glyphs,
             shaping.len(),
@@ -197,7 +197,7 @@ fn new_unicode(
     let threes_in = adding::synthesize_lookup(
         forms_in,
         masks[4],
-        IGNORE_MARKS,
+        drafts::IGNORE_MARKS,
         codes,
         glyphs,
         three_ligatures.len(),
@@ -211,7 +211,7 @@ fn new_unicode(
     let twos_in = adding::synthesize_lookup(
         threes_in,
         masks[4],
-        IGNORE_MARKS,
+        drafts::IGNORE_MARKS,
         codes,
         glyphs,
         two_ligatures.len(),
@@ -225,7 +225,7 @@ fn new_unicode(
     adding::synthesize_lookup(
         twos_in,
         masks[4],
-        0,
+        NO_FLAGS,
         codes,
         glyphs,
         mark_ligatures.len(),

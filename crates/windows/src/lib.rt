@@ -177,8 +177,8 @@ const SHADDA_COMPONENTS: [u16; 6] = [248, 243, 248, 245, 248, 246];
 
 const SHADDA_LIGATURES: [u16; 3] = [172, 173, 175];
 
-// Flags of a lookup that passes over marks.
-const IGNORE_MARKS: u16 = 8;
+// Flags of a lookup that replaces marks, and passes over nothing.
+const NO_FLAGS: u16 = 0;
 
 // Whether the font has this glyph for the code.
 fn has_glyph(codes: &[u32], glyphs: &[u32], code: Code, glyph: Glyph) -> bool
@@ -214,7 +214,7 @@ fn add_tables(masks: [u32; 5], scratch: &mut [u8]) -> Draft
         Draft::new(),
         masks[4],
         two,
-        IGNORE_MARKS,
+        drafts::IGNORE_MARKS,
         &LAM_ALEF_COMPONENTS,
         &LAM_ALEF_LIGATURES,
         scratch,
@@ -223,7 +223,7 @@ fn add_tables(masks: [u32; 5], scratch: &mut [u8]) -> Draft
         lam_alef,
         masks[0],
         one,
-        IGNORE_MARKS,
+        drafts::IGNORE_MARKS,
         &INIT_GLYPHS,
         &INIT_FORMS,
         scratch,
@@ -232,7 +232,7 @@ fn add_tables(masks: [u32; 5], scratch: &mut [u8]) -> Draft
         init,
         masks[1],
         one,
-        IGNORE_MARKS,
+        drafts::IGNORE_MARKS,
         &MEDI_GLYPHS,
         &MEDI_FORMS,
         scratch,
@@ -241,7 +241,7 @@ fn add_tables(masks: [u32; 5], scratch: &mut [u8]) -> Draft
         medi,
         masks[2],
         one,
-        IGNORE_MARKS,
+        drafts::IGNORE_MARKS,
         &FINA_GLYPHS,
         &FINA_FORMS,
         scratch,
@@ -250,7 +250,7 @@ fn add_tables(masks: [u32; 5], scratch: &mut [u8]) -> Draft
         fina,
         masks[4],
         two,
-        0,
+        NO_FLAGS,
         &SHADDA_COMPONENTS,
         &SHADDA_LIGATURES,
         scratch,

@@ -15,7 +15,6 @@ use Rattle.fallback.proofs.plan_in.Reads as plan-in-reads
 use Rattle.fallback.proofs.refused.Reads as refused-reads
 use Rattle.refusals.proofs.Verdict.number.Reads as number-reads
 
-
 abbrev inputs : tie.Start → Inputs
 inputs b =
     let a = b .args in

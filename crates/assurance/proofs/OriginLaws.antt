@@ -137,25 +137,25 @@ module _ (i : Inputs) where
 
   lent-ready : even i ≡ true → short i ≡ true → Each Ready (lent i)
   lent-ready e s =
-      let e0 = both (eqb (length (i .font .codes)) (length (i .font .glyphs))) _ e .1 in
-      let e1 = both (flatBy 4 (i .forms) (i .shaping)) _ e0 .1 in
-      let e2 = both (flatBy 3 (i .threes .components) (i .threes .ligatures)) _ e1 in
-      let e3 = both (flatBy 2 (i .twos .components) (i .twos .ligatures)) (flatBy 2 (i .marks .components) (i .marks .ligatures)) (e2 .1) in
-      let s0 = both (limited (i .shaping)) _ s in
-      let s1 = both (limited (i .threes .ligatures)) _ (s0 .1) in
-      let s2 = both (limited (i .twos .ligatures)) (limited (i .marks .ligatures)) (s1 .1) in (
-        formed-ready 0 (s0 .0),
+      let a = both (eqb (length (i .font .codes)) (length (i .font .glyphs))) _ e .1 in
+      let b = both (flatBy 4 (i .forms) (i .shaping)) _ a .1 in
+      let c = both (flatBy 3 (i .threes .components) (i .threes .ligatures)) _ b in
+      let d = both (flatBy 2 (i .twos .components) (i .twos .ligatures)) (flatBy 2 (i .marks .components) (i .marks .ligatures)) (c .1) in
+      let p = both (limited (i .shaping)) _ s in
+      let q = both (limited (i .threes .ligatures)) _ (p .1) in
+      let u = both (limited (i .twos .ligatures)) (limited (i .marks .ligatures)) (q .1) in (
+        formed-ready 0 (p .0),
         (
-          formed-ready 1 (s0 .0),
+          formed-ready 1 (p .0),
           (
-            formed-ready 2 (s0 .0),
+            formed-ready 2 (p .0),
             (
-              formed-ready 3 (s0 .0),
+              formed-ready 3 (p .0),
               (
-                joined-ready ignoreMarks 3 (i .threes) (omega arith) refl (e2 .0) (s1 .0),
+                joined-ready ignoreMarks 3 (i .threes) (omega arith) refl (c .0) (q .0),
                 (
-                  joined-ready ignoreMarks 2 (i .twos) (omega arith) refl (e3 .0) (s2 .0),
-                  (joined-ready 0 2 (i .marks) (omega arith) refl (e3 .1) (s2 .1), tt),
+                  joined-ready ignoreMarks 2 (i .twos) (omega arith) refl (d .0) (u .0),
+                  (joined-ready 0 2 (i .marks) (omega arith) refl (d .1) (u .1), tt),
                 ),
               ),
             ),

@@ -1,6 +1,6 @@
 -- The promises of the call that makes a plan hold.
 -- Assumes nothing.
-use mathlib.Core.Path.{_≡_, refl, sym, ap, ap₂, _∙_}
+use mathlib.Core.Path.{_≡_, refl, sym, ap, ap₂, _∙_, subst}
 use mathlib.Core.Bool.{Bool, true, false, false≢true}
 use mathlib.Core.List.{List, [], _++_}
 use Prim.Native.Nat.{ℕ, zero, suc, _<_, _≤_}
@@ -139,10 +139,10 @@ module _ (i : Inputs) where
     plan-empty s = rw (eq-eqb (length (unicode i)) 0 none, s)
 
 pub unicode-first : UnicodeFirst
-unicode-first i area r left x z h = rw (← plan-unicode i h) (plans i area r left x z)
+unicode-first i area r left x z h = subst (λ (es : List Entry). Says es r left) (plan-unicode i h) (plans i area r left x z)
 
 pub windows-second : WindowsSecond
-windows-second i area r left x z none s = rw (← plan-windows i none s) (plans i area r left x z)
+windows-second i area r left x z none s = subst (λ (es : List Entry). Says es r left) (plan-windows i none s) (plans i area r left x z)
 
 -- no lookup takes no room
 refusal-empty : (i : Inputs) (room : ℕ) → plan i ≡ [] → planRefusal i room ≡ first (lentRows i)

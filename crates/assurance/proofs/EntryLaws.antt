@@ -1,4 +1,4 @@
--- An entry of an accepted plan (`Good`, `plan-good`): it is made of an origin, the writer does not refuse its lookup, the reader reads it as it is, and it is no longer than a plan's lookups are. Its bytes and its mask are found by what is answered (`bytes-at`, `number-at`).
+-- An entry of an accepted plan (`Good`, `plan-good`): it is made of an origin, the writer does not refuse its lookup, the reader reads it as it is, and it is no longer than a plan's lookups are. The entries are made of the origins in their order (`plan-made`). The bytes and the mask of each are found by what is answered (`bytes-at`, `number-at`).
 -- Assumes nothing.
 use mathlib.Core.Path.{_≡_, refl, sym, ap, ap₂, _∙_}
 use mathlib.Core.Bool.{Bool, true, false, cond, _||_}
@@ -7,7 +7,7 @@ use mathlib.Core.List.{List, [], _∷_, _++_, map, append-assoc, map-append, Lis
 use Prim.Native.Nat.{ℕ, _*_, _≤_}
 use native.Mathlib.Omega.{arith}
 use native.Mathlib.Nat.{mul-le-mul-right}
-use borrow.Author.Tests.{lt-ltb, eqb-false}
+use borrow.Author.Tests.{lt-ltb, eqb-true, eqb-false}
 use lib.Dec.{eqb}
 use lib.ListN.{length, getD, take, drop, length-map}
 use lib.Seq.{take-at, drop-at, getD-at}
@@ -30,7 +30,7 @@ use Rattle.drafts.specs.Entries.{Entry, bytesOf, sizeOf, allBytes, seven, padde
 use Rattle.drafts.proofs.EntryLaws.{all-append}
 use Rattle.drafts.proofs.RoomLaws.{few-allowed}
 use Rattle.fallback.specs.Plan.{Inputs, plan}
-use Rattle.assurance.specs.Origins.{Origin, origins, rulesOf, From}
+use Rattle.assurance.specs.Origins.{Origin, origins, rulesOf, From, Made, end, used, skipped}
 use Rattle.assurance.specs.Planning.{total}
 use Rattle.assurance.specs.Lookups.{longest, mostGlyphs}
 use Rattle.assurance.proofs.OriginLaws.{madeOf, entryOf, kept, plan-kept, Sound, Ready, origins-ready}
@@ -115,18 +115,21 @@ module _ (o : Origin) (q : Ready o) where
       allowed (madeOf o .lookup) (most (o .kind))
       (few-allowed (o .flags) (q .flag) (flat rs) (ligatures rs) (fits-flat n rs sound) (fits-ligatures n rs sound) few (o .kind) (q .named) even (most (o .kind)) (omega arith))
 
+  made-from : From o (madeOf o)
+  made-from =
+      let same : rulesOf (madeOf o .lookup) ≡ rs = rules-flat n rs (wide-sound n rs sound) in
+      record { masked = refl; flagged = refl; named = refl; ordered = rw same (sorted-stable first (o .rules)) }
+
   made-good : (os : List Origin) → List·Memᴰ o os → (length rs ≡ 0 → ⊥) → Good os (madeOf o)
   made-good os m d =
       let b = kind-bounds (o .kind) (q .named) in
-      let same : rulesOf (madeOf o .lookup) ≡ rs = rules-flat n rs (wide-sound n rs sound) in
-      let stable = sorted-stable first (o .rules) in
       record {
-        readable = record { even = written .even; named = written .in-range; fit = written .small; up = ap (rising 0) (firsts-listed (o .kind) rs sound) ∙ stable .ordered };
+        readable = record { even = written .even; named = written .in-range; fit = written .small; up = ap (rising 0) (firsts-listed (o .kind) rs sound) ∙ sorted-stable first (o .rules) .ordered };
         short = omega (arith, written .enough, b .0);
         same = same-read (madeOf o .lookup) (λ z. d (sym (length-map rs (λ (r : Rule). r .ligature)) ∙ z));
         glyphs = omega (arith, even, mul-le-mul-right n few, b .1);
         substitutes = few;
-        origin = (o, m, record { masked = refl; flagged = refl; named = refl; ordered = rw same stable });
+        origin = (o, m, made-from);
       }
 
   entry-good : (os : List Origin) → List·Memᴰ o os → Each (Good os) (entryOf o)
@@ -140,6 +143,23 @@ kept-good : (all os : List Origin) → ((o : Origin) → List·Memᴰ o os → L
 kept-good all [] f q = tt
 kept-good all (o ∷ os) f q =
     each-append (Good all) (entryOf o) (kept os) (entry-good o (q .0) all (f o (List·Memᴰ·head refl))) (kept-good all os (λ p m. f p (List·Memᴰ·tail m)) (q .1))
+
+kept-made : (os : List Origin) → Each Ready os → Made os (kept os)
+kept-made [] q = end
+kept-made (o ∷ os) q = go (eqb (o .mask) 0) (eqb (length (inOrder (o .rules))) 0) refl refl (kept-made os (q .1))
+  where
+    long : length (inOrder (o .rules)) ≡ length (o .rules)
+    long = length-sorted first (o .rules)
+
+    go :
+        (a b : Bool) → eqb (o .mask) 0 ≡ a → eqb (length (inOrder (o .rules))) 0 ≡ b → Made os (kept os)
+        → Made (o ∷ os) (cond (a || b) [] (madeOf o ∷ []) ++ kept os)
+    go true b e f m = skipped (inl (eqb-true (o .mask) 0 e)) m
+    go false true e f m = skipped (inr (sym long ∙ eqb-true (length (inOrder (o .rules))) 0 f)) m
+    go false false e f m = used (eqb-false (o .mask) 0 e) (λ z. eqb-false (length (inOrder (o .rules))) 0 f (long ∙ z)) (made-from o (q .0)) m
+
+pub plan-made : (i : Inputs) (room : ℕ) → Passed i room → Made (origins i) (plan i)
+plan-made i room p = rw plan-kept (kept-made (origins i) (origins-ready i (p .belong) (p .limited)))
 
 pub plan-good : (i : Inputs) (room : ℕ) → Passed i room → (before : List Entry) (e : Entry) (behind : List Entry) → plan i ≡ before ++ (e ∷ behind) → Good (origins i) e
 plan-good i room p before e behind s =

@@ -32,9 +32,9 @@ use Rattle.fallback.specs.Planned.{even, short, planRefusal, Planning}
 use Rattle.fidelity.specs.Reading.{lookupSaid}
 use Rattle.fidelity.proofs.ReadingHolds.{reads-back}
 use Rattle.assurance.specs.Origins.{Origin, origins, rulesOf, From}
-use Rattle.assurance.specs.Lookups.{longest, NeverFive, InStableOrder, cutOut, EveryLookupReadsBack, EveryPlaceReads}
+use Rattle.assurance.specs.Lookups.{longest, NeverFive, FollowsTheOrder, InStableOrder, cutOut, EveryLookupReadsBack, EveryPlaceReads}
 use Rattle.assurance.proofs.PlanningHolds.{number-given, plans, not-refused, area-left}
-use Rattle.assurance.proofs.EntryLaws.{Good, plan-good, number-at, bytes-at}
+use Rattle.assurance.proofs.EntryLaws.{Good, plan-made, plan-good, number-at, bytes-at}
 
 -- ---- a lookup that the writer does not refuse
 module _ (l : Lookup) (q : Readable l) where
@@ -94,6 +94,9 @@ module _ (i : Inputs) (area : List ℕ) (r : FallbackPlan) (left : List ℕ) (x 
 
 pub never-five : NeverFive
 never-five i area r left x = (λ e. never-given i (length area) (sym (number-given i area r left x) ∙ e), written i area r left x)
+
+pub follows-the-order : FollowsTheOrder
+follows-the-order i area r left x z = plan-made i (length area) (not-refused i area r left x z)
 
 pub in-stable-order : InStableOrder
 in-stable-order i area r left x z before e behind s =

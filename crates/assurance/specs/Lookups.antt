@@ -1,4 +1,4 @@
--- What the lookups of an accepted plan promise, by the statement of the call (`Planning` of crate fallback) and that of the reader (`Reading` of crate reading): `longest`, `NeverFive` that each can be written; `InStableOrder` of which rules each is made, and in which order; `cutOut`, `EveryLookupReadsBack` that each is read back from the area; `mostGlyphs`, `EveryPlaceReads` the same, said of the answer alone.
+-- What the lookups of an accepted plan promise, by the statement of the call (`Planning` of crate fallback) and that of the reader (`Reading` of crate reading): `longest`, `NeverFive` that each can be written; `FollowsTheOrder`, `InStableOrder` which there are, of which rules each is made, and in which order; `cutOut`, `EveryLookupReadsBack` that each is read back from the area; `mostGlyphs`, `EveryPlaceReads` the same, said of the answer alone.
 -- Assumes nothing.
 use mathlib.Core.Path.{_≡_}
 use mathlib.Core.List.{List, _∷_, _++_, List·Memᴰ}
@@ -15,7 +15,7 @@ use Rattle.fallback.specs.Planned.{Planning}
 use Rattle.reading.specs.declared.Answer.{Answer}
 use Rattle.reading.specs.Read.{Columns, numberSaid, Reading}
 use Rattle.fidelity.specs.Reading.{lookupSaid}
-use Rattle.assurance.specs.Origins.{Origin, origins, rulesOf, From}
+use Rattle.assurance.specs.Origins.{Origin, origins, rulesOf, From, Made}
 use Rattle.assurance.specs.Planning.{total}
 
 -- ---- each can be written
@@ -32,6 +32,11 @@ NeverFive =
     → (writeRefusal (e .lookup) (sizeOf e) ≡ 0) × (sizeOf e ≤ longest))
 
 -- ---- of which rules, and in which order
+-- "The plan follows 001's order, zero masks skipped": each of its origins that has a mask and a rule is planned, in their order, and no other.
+abbrev pub FollowsTheOrder : Type 0
+FollowsTheOrder =
+    (i : Inputs) (area : List ℕ) (r : FallbackPlan) (left : List ℕ) → Planning i area r left → said (r .verdict) ≡ 0 → Made (origins i) (plan i)
+
 -- Each lookup is made of one of the plan's origins: its rules are in stable order by first glyph, and no other list is.
 abbrev pub InStableOrder : Type 0
 InStableOrder =

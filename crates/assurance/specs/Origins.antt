@@ -1,7 +1,8 @@
--- What the lookups of a plan are made of: `Origin`, `originOf` a mask, the flags and the kind of a lookup, and its rules, not yet in order; `formed` those of a form, `joined` those of a list of ligatures; `lent` the seven by Unicode's presentation forms, `tables` the five for Windows-1256, `origins` those of a plan; `rulesOf` the rules of a lookup; `From` that an entry is made of an origin.
+-- What the lookups of a plan are made of: `Origin`, `originOf` a mask, the flags and the kind of a lookup, and its rules, not yet in order; `formed` those of a form, `joined` those of a list of ligatures; `lent` the seven by Unicode's presentation forms, `tables` the five for Windows-1256, `origins` those of a plan; `rulesOf` the rules of a lookup; `From` that an entry is made of an origin, `Made` that entries are made of origins.
 -- Assumes nothing.
 use mathlib.Core.Path.{_≡_}
 use mathlib.Core.Bool.{cond}
+use mathlib.Core.Logic.{_⊎_}
 use mathlib.Core.List.{List, [], _∷_}
 use Prim.Native.Nat.{ℕ}
 use lib.Dec.{eqb}
@@ -66,3 +67,9 @@ pub record From (o : Origin) (e : Entry) : Type 0 where
   pub flagged : e .lookup .flags ≡ o .flags
   pub named : e .lookup .kind ≡ o .kind
   pub ordered : Stable first (o .rules) (rulesOf (e .lookup))
+
+-- entries made of origins, in their order: one of each that has a mask and a rule, and none of any other
+pub data Made : List Origin → List Entry → Type 0 where
+  end : Made [] []
+  used : {o : Origin} {e : Entry} {os : List Origin} {es : List Entry} → (o .mask ≡ 0 → ⊥) → (length (o .rules) ≡ 0 → ⊥) → From o e → Made os es → Made (o ∷ os) (e ∷ es)
+  skipped : {o : Origin} {os : List Origin} {es : List Entry} → (o .mask ≡ 0) ⊎ (length (o .rules) ≡ 0) → Made os es → Made (o ∷ os) es

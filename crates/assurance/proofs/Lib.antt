@@ -1,0 +1,7 @@
+-- Each promise, proved.
+-- Assumes nothing.
+pub mod OriginLaws
+pub mod PlanLaws
+pub mod PlanningHolds
+pub mod EntryLaws
+pub mod LookupsHold

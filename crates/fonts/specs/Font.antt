@@ -1,9 +1,9 @@
--- A font's map from code points to glyphs, two columns: `Font`, `fontOf` the map; `Sound` what is asked of one; `absent`, `glyphAmong`, `glyphOf` the glyph of a code, or none; `numberFound` what a search answers.
+-- A font's map from code points to glyphs, two columns: `Font`, `fontOf` the map; `Sound` what is asked of one; `Span` the window that a search of it begins with; `absent`, `glyphAmong`, `glyphOf` the glyph of a code, or none; `numberFound` what a search answers.
 -- Assumes nothing.
 use mathlib.Core.Path.{_≡_}
 use mathlib.Core.Bool.{true, cond}
 use mathlib.Core.List.{List, [], _∷_}
-use Prim.Native.Nat.{ℕ}
+use Prim.Native.Nat.{ℕ, _*_, _^_, _≤_, _<_}
 use lib.Dec.{eqb}
 use lib.ListN.{length}
 use Rattle.refusals.specs.Columns.{rising}
@@ -22,6 +22,13 @@ fontOf codes glyphs = record { codes = codes; glyphs = glyphs }
 pub record Sound (f : Font) : Type 0 where
   pub even : length (f .codes) ≡ length (f .glyphs)
   pub rises : rising 1 (f .codes) ≡ true
+
+-- the greatest power of two that is not above n; 1 for 0
+pub record Span (n span : ℕ) : Type 0 where
+  pub exponent : ℕ
+  pub power : span ≡ 2 ^ exponent
+  pub inside : 0 < n → span ≤ n
+  pub reaches : n < 2 * span
 
 -- stands for the glyph of a code that the font has not: above every number of 32 bits
 abbrev pub absent : ℕ

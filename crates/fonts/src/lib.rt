@@ -1,7 +1,10 @@
-// Fonts: the map from code points to glyphs that a font lends, searched by halving.
+// Fonts: the map from code points to glyphs that a font lends, searched by powers of two.
 ghost use mathlib.Core.Path.{_≡_};
+ghost use mathlib.Core.Bool.{cond};
 ghost use Prim.Native.Nat.{min};
-ghost use Rattle.fonts.specs.Font.{fontOf, Sound, glyphOf, numberFound};
+ghost use lib.Dec.{ltb};
+ghost use lib.ListN.{length};
+ghost use Rattle.fonts.specs.Font.{fontOf, Sound, Span, glyphOf, numberFound};
 use letters::Code;
 use letters::Glyph;
 
@@ -11,34 +14,54 @@ pub enum Found {
     Absent,
 }
 
-// The glyph of a code, by halving.
-pub fn nominal_glyph(codes: &[u32], glyphs: &[u32], code: Code) -> Found
-    requires { ⌜ Sound (fontOf (now codes) (now glyphs)) ⌝ }
+// The greatest power of two that is not above `n`; 1 for 0. One compares with the half of `n`, since the double may not fit.
+pub fn span_of(n: usize) -> usize
+    ensures { λ r. ⌜ Span n r ⌝ }
+{
+    let mut span = 1;
+    while span <= n / 2 {
+        span = span * 2;
+    }
+    span
+}
+
+// The later of two places, unless its code is above the one sought. A function of its own, so that a step is a choice between two numbers and no branch.
+fn later(code: u32, sought: u32, base: usize, middle: usize) -> usize
+    ensures { λ r. ⌜ r ≡ cond (ltb sought code) base middle ⌝ }
+{
+    if sought < code { base } else { middle }
+}
+
+// The glyph of a code. `span` is that of the number of codes: a window that is a power of two halves exactly, so that a step is one comparison. The first window is the codes' first `span` or their last, which meet.
+pub fn nominal_glyph(codes: &[u32], glyphs: &[u32], span: usize, code: Code) -> Found
+    requires { ⌜ Sound (fontOf (now codes) (now glyphs)) × Span (length (now codes)) span ⌝ }
     ensures { λ r. ⌜ numberFound r ≡ glyphOf (fontOf (now (codes .entry)) (now (glyphs .entry))) (code .0) ⌝ }
 {
     let sought = code.0;
-    let mut low = 0;
-    let mut high = codes.len();
-    while low < high {
-        let middle = low + (high - low) / 2;
-        if codes[middle] == sought {
-            return Found::At(Glyph(glyphs[middle]));
-        }
-        if codes[middle] < sought {
-            low = middle + 1;
-        } else {
-            high = middle;
-        }
+    let n = codes.len();
+    if n == 0 {
+        return Found::Absent;
+    }
+    let tail = n - span;
+    let mut base = later(codes[tail], sought, 0, tail);
+    let mut half = span / 2;
+    while 0 < half {
+        let middle = base + half;
+        base = later(codes[middle], sought, base, middle);
+        half = half / 2;
+    }
+    if codes[base] == sought {
+        return Found::At(Glyph(glyphs[base]));
     }
     Found::Absent
 }
 
 // The glyph of a code that a rule may use; 65,536 where there is none, or one above 65,535.
-pub fn glyph_for_codepoint(codes: &[u32], glyphs: &[u32], code: u16) -> u32
-    requires { ⌜ Sound (fontOf (now codes) (now glyphs)) ⌝ }
+pub fn glyph_for_codepoint(codes: &[u32], glyphs: &[u32], span: usize, code: u16) -> u32
+    requires { ⌜ Sound (fontOf (now codes) (now glyphs)) × Span (length (now codes)) span ⌝ }
     ensures { λ r. ⌜ r ≡ min (glyphOf (fontOf (now (codes .entry)) (now (glyphs .entry))) code) 65536 ⌝ }
 {
-    match nominal_glyph(codes, glyphs, Code(code as u32)) {
+    match nominal_glyph(codes, glyphs, span, Code(code as u32)) {
         Found::At(glyph) => {
             let g = glyph.0;
             if 65535 < g { 65536 } else { g }

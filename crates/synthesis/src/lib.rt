@@ -4,7 +4,7 @@ ghost use Prim.Native.Nat.{_+_, _*_, _≤_, _<_};
 ghost use lib.ListN.{length};
 ghost use Rattle.laws.specs.Lists.{pasted};
 ghost use Rattle.layouts.specs.declared.Kind.the-variants.{Single, Ligature};
-ghost use Rattle.fonts.specs.Font.{fontOf, Sound};
+ghost use Rattle.fonts.specs.Font.{fontOf, Sound, Span};
 ghost use Rattle.synthesis.specs.Rules.{rows, ruled, kindOf};
 ghost use Rattle.synthesis.specs.Made.{packedIn, rowOf, gives, pair, Collected};
 
@@ -15,18 +15,18 @@ pub enum Row {
 }
 
 // The rule of a shaping row. A form 0 costs no search.
-fn single_rule(codes: &[u32], glyphs: &[u32], code: u16, form: u16) -> Row
-    requires { ⌜ Sound (fontOf (now codes) (now glyphs)) ⌝ }
+fn single_rule(codes: &[u32], glyphs: &[u32], span: usize, code: u16, form: u16) -> Row
+    requires { ⌜ Sound (fontOf (now codes) (now glyphs)) × Span (length (now codes)) span ⌝ }
     ensures { λ r. ⌜ packedIn r ≡ gives (fontOf (now (codes .entry)) (now (glyphs .entry))) Single (pair code form) ⌝ }
 {
     if form == 0 {
         return Row::Dropped;
     }
-    let target = fonts::glyph_for_codepoint(codes, glyphs, form);
+    let target = fonts::glyph_for_codepoint(codes, glyphs, span, form);
     if 65535 < target {
         return Row::Dropped;
     }
-    let glyph = fonts::glyph_for_codepoint(codes, glyphs, code);
+    let glyph = fonts::glyph_for_codepoint(codes, glyphs, span, code);
     if 65535 < glyph {
         return Row::Dropped;
     }
@@ -40,15 +40,16 @@ fn single_rule(codes: &[u32], glyphs: &[u32], code: u16, form: u16) -> Row
 fn ligature_rule(
     codes: &[u32],
     glyphs: &[u32],
+    span: usize,
     n: usize,
     components: &[u16],
     at: usize,
     ligature: u16,
 ) -> Row
-    requires { ⌜ Sound (fontOf (now codes) (now glyphs)) × (n ≤ 3) × (at + n ≤ length (now components)) ⌝ }
+    requires { ⌜ Sound (fontOf (now codes) (now glyphs)) × Span (length (now codes)) span × (n ≤ 3) × (at + n ≤ length (now components)) ⌝ }
     ensures { λ r. ⌜ packedIn r ≡ gives (fontOf (now (codes .entry)) (now (glyphs .entry))) (Ligature n) (rowOf n (now (components .entry)) at ligature) ⌝ }
 {
-    let whole = fonts::glyph_for_codepoint(codes, glyphs, ligature);
+    let whole = fonts::glyph_for_codepoint(codes, glyphs, span, ligature);
     if 65535 < whole {
         return Row::Dropped;
     }
@@ -56,7 +57,7 @@ fn ligature_rule(
     let mut k = n;
     while 0 < k {
         k -= 1;
-        let part = fonts::glyph_for_codepoint(codes, glyphs, components[at + k]);
+        let part = fonts::glyph_for_codepoint(codes, glyphs, span, components[at + k]);
         if 65535 < part {
             return Row::Dropped;
         }
@@ -69,18 +70,19 @@ fn ligature_rule(
 fn rule_of(
     codes: &[u32],
     glyphs: &[u32],
+    span: usize,
     n: usize,
     components: &[u16],
     at: usize,
     ligature: u16,
 ) -> Row
-    requires { ⌜ Sound (fontOf (now codes) (now glyphs)) × (1 ≤ n) × (n ≤ 3) × (at + n ≤ length (now components)) ⌝ }
+    requires { ⌜ Sound (fontOf (now codes) (now glyphs)) × Span (length (now codes)) span × (1 ≤ n) × (n ≤ 3) × (at + n ≤ length (now components)) ⌝ }
     ensures { λ r. ⌜ packedIn r ≡ gives (fontOf (now (codes .entry)) (now (glyphs .entry))) (kindOf n) (rowOf n (now (components .entry)) at ligature) ⌝ }
 {
     if n == 1 {
-        return single_rule(codes, glyphs, components[at], ligature);
+        return single_rule(codes, glyphs, span, components[at], ligature);
     }
-    ligature_rule(codes, glyphs, n, components, at, ligature)
+    ligature_rule(codes, glyphs, span, n, components, at, ligature)
 }
 
 // Puts what a row gives at place `at` of the rules; the place behind it.
@@ -97,7 +99,7 @@ fn keep(row: Row, rules: &mut [u64], at: usize) -> usize
     }
 }
 
-// The rules of `count` rows from the start of `rules` on, in the rows' order; how many they are. A row has `n` components, and one of `each` numbers of the other column, that at place `k`.
+// The rules of `count` rows from the start of `rules` on, in the rows' order; how many they are. A row has `n` components, and one of `each` numbers of the other column, that at place `k`. The span of a search is the same for all rows.
 pub fn collect(
     codes: &[u32],
     glyphs: &[u32],
@@ -112,12 +114,13 @@ pub fn collect(
     requires { ⌜ Sound (fontOf (now codes) (now glyphs)) × (1 ≤ n) × (n ≤ 3) × (k < each) × (count * n ≤ length (now components)) × (count * each ≤ length (now ligatures)) × (count ≤ length (now rules)) ⌝ }
     ensures { λ r. ⌜ Collected (ruled (fontOf (now (codes .entry)) (now (glyphs .entry))) (kindOf n) (rows count n each k (now (components .entry)) (now (ligatures .entry)))) (now (rules .entry)) r (now (rules .exit)) ⌝ }
 {
+    let span = fonts::span_of(codes.len());
     let mut left = count;
     let mut c = 0;
     let mut l = 0;
     let mut made = 0;
     while 0 < left {
-        let row = rule_of(codes, glyphs, n, components, c, ligatures[l + k]);
+        let row = rule_of(codes, glyphs, span, n, components, c, ligatures[l + k]);
         made = keep(row, rules, made);
         c += n;
         l += each;

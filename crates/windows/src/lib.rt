@@ -4,7 +4,7 @@ ghost use mathlib.Core.Bool.{cond};
 ghost use Prim.Native.Nat.{_<_, _≤_};
 ghost use lib.Dec.{eqb};
 ghost use lib.ListN.{length};
-ghost use Rattle.fonts.specs.Font.{fontOf, Sound, glyphOf};
+ghost use Rattle.fonts.specs.Font.{fontOf, Sound, Span, glyphOf};
 ghost use Rattle.drafts.specs.Drafted.{Drafted};
 ghost use Rattle.windows.specs.Windows.{signed, direct};
 ghost use Rattle.windows.specs.Windows.{windows as windowsOf};
@@ -181,11 +181,11 @@ const SHADDA_LIGATURES: [u16; 3] = [172, 173, 175];
 const NO_FLAGS: u16 = 0;
 
 // Whether the font has this glyph for the code.
-fn has_glyph(codes: &[u32], glyphs: &[u32], code: Code, glyph: Glyph) -> bool
-    requires { ⌜ Sound (fontOf (now codes) (now glyphs)) × (glyph .0 < 4294967296) ⌝ }
+fn has_glyph(codes: &[u32], glyphs: &[u32], span: usize, code: Code, glyph: Glyph) -> bool
+    requires { ⌜ Sound (fontOf (now codes) (now glyphs)) × Span (length (now codes)) span × (glyph .0 < 4294967296) ⌝ }
     ensures { λ r. ⌜ r ≡ eqb (glyphOf (fontOf (now (codes .entry)) (now (glyphs .entry))) (code .0)) (glyph .0) ⌝ }
 {
-    match fonts::nominal_glyph(codes, glyphs, code) {
+    match fonts::nominal_glyph(codes, glyphs, span, code) {
         Found::At(found) => found.0 == glyph.0,
         Found::Absent => false,
     }
@@ -196,11 +196,12 @@ pub fn is_win1256_font(codes: &[u32], glyphs: &[u32]) -> bool
     requires { ⌜ Sound (fontOf (now codes) (now glyphs)) ⌝ }
     ensures { λ r. ⌜ r ≡ signed (fontOf (now (codes .entry)) (now (glyphs .entry))) ⌝ }
 {
-    has_glyph(codes, glyphs, Code(0x0627), Glyph(199))
-        & (has_glyph(codes, glyphs, Code(0x0644), Glyph(225))
-            & (has_glyph(codes, glyphs, Code(0x0649), Glyph(236))
-                & (has_glyph(codes, glyphs, Code(0x064A), Glyph(237))
-                    & has_glyph(codes, glyphs, Code(0x0652), Glyph(250)))))
+    let span = fonts::span_of(codes.len());
+    has_glyph(codes, glyphs, span, Code(0x0627), Glyph(199))
+        & (has_glyph(codes, glyphs, span, Code(0x0644), Glyph(225))
+            & (has_glyph(codes, glyphs, span, Code(0x0649), Glyph(236))
+                & (has_glyph(codes, glyphs, span, Code(0x064A), Glyph(237))
+                    & has_glyph(codes, glyphs, span, Code(0x0652), Glyph(250)))))
 }
 
 // The five lookups, each if it has a mask.

@@ -1,75 +1,91 @@
 -- `fonts::nominal_glyph` meets its contract.
 -- Assumes nothing.
-use Prim.Native.Nat.{_+_, _-_, _/_}
 use native.Mathlib.Omega.{arith}
-use Rattle.fonts.proofs.FontLaws.{Halving, halving-begins, halving-up, halving-down, halving-finds, halving-ends}
+use Rattle.fonts.proofs.FontLaws.{Searching, searching-begins, searching-next, searching-inside, searching-middle, searching-finds, searching-ends, searching-nowhere}
 use Rattle.fonts.proofs.nominal_glyph.Statement.{statement}
 use Rattle.fonts.proofs.nominal_glyph.Tie as tie
 use Rattle.fonts.proofs.nominal_glyph.Reads as reads
 use Rattle.fonts.proofs.nominal_glyph.Lts as lts
+use Rattle.fonts.proofs.later.Reads as later-reads
 
 abbrev Inv-loop : tie.InvT-loop
-Inv-loop codes glyphs sought low₀ high₀ low high = Halving codes sought low high
+Inv-loop codes glyphs span sought n tail base₀ half₀ base half = Searching codes sought base half
 
 abbrev μ-loop : tie.MeasureT-loop
-μ-loop codes glyphs sought low₀ high₀ low high = high - low
-
-loop-holds : tie.Need-loop-holds Inv-loop μ-loop
-loop-holds c = halving-begins (c .args .codes .now) (c .args .code .0)
-
-sub-middle : tie.Need-sub-middle Inv-loop μ-loop
-sub-middle c = omega arith
-
-add-middle : tie.Need-add-middle Inv-loop μ-loop
-add-middle c = omega arith
-
-mul-if1 : tie.Need-mul-if1 Inv-loop μ-loop
-mul-if1 c = omega arith
-
-shared-slice-read-if1 : tie.Need-shared-slice-read-if1 Inv-loop μ-loop
-shared-slice-read-if1 c = omega arith
-
-mul-t13 : tie.Need-mul-t13 Inv-loop μ-loop
-mul-t13 c = omega arith
-
-shared-slice-read-t15 : tie.Need-shared-slice-read-t15 Inv-loop μ-loop
-shared-slice-read-t15 c = omega arith
+μ-loop codes glyphs span sought n tail base₀ half₀ base half = half
 
 returns : tie.Need-returns Inv-loop μ-loop
 returns c =
-    let l = c .before .before .before .before in
-    let m = l .loop .low + (l .loop .high - l .loop .low) / 2 in
-    halving-finds (l .before .pre) (l .loop .inv) m (omega arith) (omega arith) (c .before .if1 .taken)
+    let a = c .before .before .before .args in
+    searching-nowhere (a .codes .now) (a .glyphs .now) (a .code .0) (c .if1 .taken)
 
-mul-if2 : tie.Need-mul-if2 Inv-loop μ-loop
-mul-if2 c = omega arith
+sub-tail : tie.Need-sub-tail Inv-loop μ-loop
+sub-tail c = c .before .before .before .pre .1 .inside (omega (arith, c .if1 .left))
 
-shared-slice-read-if2 : tie.Need-shared-slice-read-if2 Inv-loop μ-loop
-shared-slice-read-if2 c = omega arith
+mul-later : tie.Need-mul-later Inv-loop μ-loop
+mul-later c = omega arith
 
-add-low : tie.Need-add-low Inv-loop μ-loop
-add-low c = omega arith
+shared-slice-read-later : tie.Need-shared-slice-read-later Inv-loop μ-loop
+shared-slice-read-later c =
+    let e = c .before in
+    let p = e .before .before .before .pre .1 in
+    omega (arith, e .if1 .left, p .reaches)
+
+later-requires : tie.Need-later-requires Inv-loop μ-loop
+later-requires c κs = tt
+
+loop-holds : tie.Need-loop-holds Inv-loop μ-loop
+loop-holds c =
+    let e = c .before .before in
+    let p = e .before .before .before .pre in
+    searching-begins (p .0) (p .1) (omega (arith, e .if1 .left)) (c .later .ensures)
+
+add-middle : tie.Need-add-middle Inv-loop μ-loop
+add-middle c = omega (arith, searching-middle (c .before .loop .inv) (c .loop-test .taken))
+
+mul-later-2 : tie.Need-mul-later-2 Inv-loop μ-loop
+mul-later-2 c = omega (arith, searching-middle (c .before .loop .inv) (c .loop-test .taken))
+
+shared-slice-read-later-2 : tie.Need-shared-slice-read-later-2 Inv-loop μ-loop
+shared-slice-read-later-2 c = searching-middle (c .before .before .loop .inv) (c .before .loop-test .taken)
+
+later-requires-2 : tie.Need-later-requires-2 Inv-loop μ-loop
+later-requires-2 c κs = tt
 
 loop-less : tie.Need-loop-less Inv-loop μ-loop
-loop-less c = omega arith
+loop-less c = omega (arith, c .before .before .loop-test .taken)
 
 loop-again : tie.Need-loop-again Inv-loop μ-loop
 loop-again c =
-    let l = c .before .before .before .before .before in
-    let m = l .loop .low + (l .loop .high - l .loop .low) / 2 in
-    halving-up (l .before .pre) (l .loop .inv) m (omega arith) (omega arith) (c .if2 .taken)
+    let t = c .before .before in
+    let l = t .before in
+    searching-next (l .before .before .before .before .before .before .pre .0) (l .loop .inv) (t .loop-test .taken) (c .later2 .ensures)
 
-loop-less-2 : tie.Need-loop-less-2 Inv-loop μ-loop
-loop-less-2 c = omega arith
+mul-if2 : tie.Need-mul-if2 Inv-loop μ-loop
+mul-if2 c = omega (arith, searching-inside (c .before .loop .inv))
 
-loop-again-2 : tie.Need-loop-again-2 Inv-loop μ-loop
-loop-again-2 c =
-    let l = c .before .before .before .before .before in
-    let m = l .loop .low + (l .loop .high - l .loop .low) / 2 in
-    halving-down (l .before .pre) (l .loop .inv) m (omega arith) (omega arith) (omega (arith, c .before .before .if1 .left))
+shared-slice-read-if2 : tie.Need-shared-slice-read-if2 Inv-loop μ-loop
+shared-slice-read-if2 c = searching-inside (c .before .before .loop .inv)
+
+mul-t20 : tie.Need-mul-t20 Inv-loop μ-loop
+mul-t20 c = omega arith
+
+shared-slice-read-t22 : tie.Need-shared-slice-read-t22 Inv-loop μ-loop
+shared-slice-read-t22 c = omega (arith, searching-inside (c .before .before .before .before .loop .inv), c .before .before .before .before .before .before .before .before .before .before .pre .0 .even)
 
 returns-2 : tie.Need-returns-2 Inv-loop μ-loop
-returns-2 c = halving-ends (c .before .before .args .glyphs .now) (c .before .loop .inv) (c .loop-test .left)
+returns-2 c =
+    let t = c .before in
+    let l = t .before .before .before in
+    let s = l .before .before .before .before .before .before in
+    searching-finds (l .loop .inv) (s .args .glyphs .now) (s .pre .0 .even) (t .if2 .taken)
+
+returns-3 : tie.Need-returns-3 Inv-loop μ-loop
+returns-3 c =
+    let e = c .before .before in
+    let l = e .before in
+    let s = l .before .before .before .before .before .before in
+    searching-ends (l .loop .inv) (s .args .glyphs .now) (omega (arith, e .loop-test .left)) (c .if2 .left)
 
 pub nominal-glyph-spec : {M : Type 1} → statement M
 nominal-glyph-spec =
@@ -77,19 +93,21 @@ nominal-glyph-spec =
     (tie.spec
     Inv-loop
     μ-loop
-    loop-holds
-    sub-middle
-    add-middle
-    mul-if1
-    shared-slice-read-if1
-    mul-t13
-    shared-slice-read-t15
     returns
-    mul-if2
-    shared-slice-read-if2
-    add-low
+    sub-tail
+    mul-later
+    shared-slice-read-later
+    later-requires
+    loop-holds
+    add-middle
+    mul-later-2
+    shared-slice-read-later-2
+    later-requires-2
     loop-less
     loop-again
-    loop-less-2
-    loop-again-2
-    returns-2)
+    mul-if2
+    shared-slice-read-if2
+    mul-t20
+    shared-slice-read-t22
+    returns-2
+    returns-3)

@@ -11,10 +11,10 @@ use Rattle.synthesis.proofs.ligature_rule.Lts as lts
 use Rattle.fonts.proofs.glyph_for_codepoint.Reads as glyph-for-codepoint-reads
 
 abbrev Inv-loop : tie.InvT-loop
-Inv-loop codes glyphs n components at ligature whole x₀ k₀ x k = Packing (fontOf codes glyphs) n components at whole k x
+Inv-loop codes glyphs span n components at ligature whole x₀ k₀ x k = Packing (fontOf codes glyphs) n components at whole k x
 
 abbrev μ-loop : tie.MeasureT-loop
-μ-loop codes glyphs n components at ligature whole x₀ k₀ x k = k
+μ-loop codes glyphs span n components at ligature whole x₀ k₀ x k = k
 
 -- one more component is packed
 next :
@@ -26,17 +26,19 @@ next c =
     let l = t .before in
     let s = l .before .before .before .before .before .before in
     let a = s .args in
-    packing-next (fontOf (a .codes .now) (a .glyphs .now)) (a .n) (a .components .now) (a .at) (s .pre .2) (l .loop .inv) (l .loop .k - 1) (omega (arith, t .loop-test .taken)) (g .glyph-for-codepoint2 .ensures) (omega (arith, c .if2 .left))
+    packing-next (fontOf (a .codes .now) (a .glyphs .now)) (a .n) (a .components .now) (a .at) (s .pre .3) (l .loop .inv) (l .loop .k - 1) (omega (arith, t .loop-test .taken)) (g .glyph-for-codepoint2 .ensures) (omega (arith, c .if2 .left))
 
 bound : (c : tie.Else2 Inv-loop μ-loop) → c .before .before .before .before .loop .x * 65536 + c .before .glyph-for-codepoint2 .result < 18446744073709551616
 bound c =
     let e = c .before .before .before .before .before in
     let s = e .before .before .before .before .before in
     let a = s .args in
-    packing-fits (fontOf (a .codes .now) (a .glyphs .now)) (a .n) (a .components .now) (a .at) (s .pre .2) (next c) (omega (arith, e .if1 .left)) (s .pre .1)
+    packing-fits (fontOf (a .codes .now) (a .glyphs .now)) (a .n) (a .components .now) (a .at) (s .pre .3) (next c) (omega (arith, e .if1 .left)) (s .pre .2)
 
 glyph-for-codepoint-requires : tie.Need-glyph-for-codepoint-requires Inv-loop μ-loop
-glyph-for-codepoint-requires c κs = c .before .before .before .pre .0
+glyph-for-codepoint-requires c κs =
+    let p = c .before .before .before .pre in
+    (p .0, p .1)
 
 returns : tie.Need-returns Inv-loop μ-loop
 returns c =
@@ -51,7 +53,7 @@ loop-holds : tie.Need-loop-holds Inv-loop μ-loop
 loop-holds c =
     let s = c .before .before .before .before .before in
     let a = s .args in
-    packing-begins (fontOf (a .codes .now) (a .glyphs .now)) (a .n) (a .components .now) (a .at) (s .pre .2) _
+    packing-begins (fontOf (a .codes .now) (a .glyphs .now)) (a .n) (a .components .now) (a .at) (s .pre .3) _
 
 sub-k : tie.Need-sub-k Inv-loop μ-loop
 sub-k c = omega (arith, c .loop-test .taken)
@@ -67,7 +69,9 @@ shared-slice-read-glyph-for-codepoint :
 shared-slice-read-glyph-for-codepoint c = omega arith
 
 glyph-for-codepoint-requires-2 : tie.Need-glyph-for-codepoint-requires-2 Inv-loop μ-loop
-glyph-for-codepoint-requires-2 c κs = c .before .before .before .before .before .before .before .before .pre .0
+glyph-for-codepoint-requires-2 c κs =
+    let p = c .before .before .before .before .before .before .before .before .pre in
+    (p .0, p .1)
 
 returns-2 : tie.Need-returns-2 Inv-loop μ-loop
 returns-2 c =
@@ -76,7 +80,7 @@ returns-2 c =
     let l = t .before in
     let s = l .before .before .before .before .before .before in
     let a = s .args in
-    packing-stops (fontOf (a .codes .now) (a .glyphs .now)) (a .n) (a .components .now) (a .at) (s .pre .2) (l .loop .inv) (l .loop .k - 1) (omega (arith, t .loop-test .taken)) (g .glyph-for-codepoint2 .ensures) (a .ligature) (omega (arith, c .if2 .taken))
+    packing-stops (fontOf (a .codes .now) (a .glyphs .now)) (a .n) (a .components .now) (a .at) (s .pre .3) (l .loop .inv) (l .loop .k - 1) (omega (arith, t .loop-test .taken)) (g .glyph-for-codepoint2 .ensures) (a .ligature) (omega (arith, c .if2 .taken))
 
 mul-x : tie.Need-mul-x Inv-loop μ-loop
 mul-x c = omega (arith, bound c)
@@ -100,7 +104,7 @@ returns-3 c =
     let g = e .before in
     let s = g .before .before .before .before in
     let a = s .args in
-    packing-ends (fontOf (a .codes .now) (a .glyphs .now)) (a .n) (a .components .now) (a .at) (s .pre .2) (l .loop .inv) (a .ligature) (omega (arith, c .loop-test .left)) (g .glyph-for-codepoint .ensures) (omega (arith, e .if1 .left))
+    packing-ends (fontOf (a .codes .now) (a .glyphs .now)) (a .n) (a .components .now) (a .at) (s .pre .3) (l .loop .inv) (a .ligature) (omega (arith, c .loop-test .left)) (g .glyph-for-codepoint .ensures) (omega (arith, e .if1 .left))
 
 pub ligature-rule-spec : {M : Type 1} → statement M
 ligature-rule-spec =

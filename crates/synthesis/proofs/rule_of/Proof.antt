@@ -24,7 +24,7 @@ returns c =
     let t = c .before .before in
     let s = t .before .before .before .before in
     let a = s .args in
-    kind-single (fontOf (a .codes .now) (a .glyphs .now)) (a .n) (a .components .now) (a .at) (a .ligature) (t .if1 .taken) (s .pre .3) (c .single-rule .ensures)
+    kind-single (fontOf (a .codes .now) (a .glyphs .now)) (a .n) (a .components .now) (a .at) (a .ligature) (t .if1 .taken) (s .pre .4) (c .single-rule .ensures)
 
 ligature-rule-requires : tie.Need-ligature-rule-requires
 ligature-rule-requires c κs = search needs

@@ -47,17 +47,17 @@ returns-4 c =
     let a = e .before .before .before .args in
     single-equal (fontOf (a .codes .now) (a .glyphs .now)) (a .code) (a .form) (e .if1 .left) (g .glyph-for-codepoint .ensures) (omega (arith, l .if2 .left)) (d .glyph-for-codepoint2 .ensures) (omega (arith, m .if3 .left)) (c .if4 .taken)
 
-cast-t8 : tie.Need-cast-t8
-cast-t8 c = search needs
+cast-t9 : tie.Need-cast-t9
+cast-t9 c = search needs
 
-mul-t9 : tie.Need-mul-t9
-mul-t9 c = search needs
+mul-t10 : tie.Need-mul-t10
+mul-t10 c = search needs
 
-cast-t10 : tie.Need-cast-t10
-cast-t10 c = search needs
+cast-t11 : tie.Need-cast-t11
+cast-t11 c = search needs
 
-add-t11 : tie.Need-add-t11
-add-t11 c = search needs
+add-t12 : tie.Need-add-t12
+add-t12 c = search needs
 
 returns-5 : tie.Need-returns-5
 returns-5 c =
@@ -79,8 +79,8 @@ single-rule-spec =
     glyph-for-codepoint-requires-2
     returns-3
     returns-4
-    cast-t8
-    mul-t9
-    cast-t10
-    add-t11
+    cast-t9
+    mul-t10
+    cast-t11
+    add-t12
     returns-5)

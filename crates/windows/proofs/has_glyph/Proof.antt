@@ -32,7 +32,7 @@ returns-2 : tie.Need-returns-2
 returns-2 c =
     let n = c .before .before in
     let s = n .before .before .before in
-    sym (ap (λ (x : ℕ). eqb x (s .args .glyph .0)) (sym (n .nominal-glyph .ensures) ∙ ap numberFound (c .enum-told .given .1)) ∙ ne-eqb absent (s .args .glyph .0) (λ e. omega (arith, s .pre .1)))
+    sym (ap (λ (x : ℕ). eqb x (s .args .glyph .0)) (sym (n .nominal-glyph .ensures) ∙ ap numberFound (c .enum-told .given .1)) ∙ ne-eqb absent (s .args .glyph .0) (λ e. omega (arith, s .pre .2)))
 
 pub has-glyph-spec : {M : Type 1} → statement M
 has-glyph-spec =

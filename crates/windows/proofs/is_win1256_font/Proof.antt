@@ -9,6 +9,10 @@ use Rattle.windows.proofs.is_win1256_font.Tie as tie
 use Rattle.windows.proofs.is_win1256_font.Reads as reads
 use Rattle.windows.proofs.is_win1256_font.Lts as lts
 use Rattle.windows.proofs.has_glyph.Reads as has-glyph-reads
+use Rattle.fonts.proofs.span_of.Reads as span-of-reads
+
+span-of-requires : tie.Need-span-of-requires
+span-of-requires c κs = tt
 
 has-glyph-requires : tie.Need-has-glyph-requires
 has-glyph-requires c κs = search needs
@@ -38,6 +42,7 @@ pub is-win1256-font-spec : {M : Type 1} → statement M
 is-win1256-font-spec =
     tie.close
     (tie.spec
+    span-of-requires
     has-glyph-requires
     has-glyph-requires-2
     has-glyph-requires-3

@@ -25,14 +25,14 @@ pub fn span_of(n: usize) -> usize
     span
 }
 
-// The later of two places, unless its code is above the one sought. A function of its own, so that a step is a choice between two numbers and no branch.
+// The later of two places, unless its code is above the one sought. A function of its own, so that a step chooses between two numbers, and all else in it is the same for both.
 fn later(code: u32, sought: u32, base: usize, middle: usize) -> usize
     ensures { λ r. ⌜ r ≡ cond (ltb sought code) base middle ⌝ }
 {
     if sought < code { base } else { middle }
 }
 
-// The glyph of a code. `span` is that of the number of codes: a window that is a power of two halves exactly, so that a step is one comparison. The first window is the codes' first `span` or their last, which meet.
+// The glyph of a code. `span` is that of the number of codes: a window that is a power of two halves exactly, so that a step is one comparison and one choice. The first window is the codes' first `span` or their last, which meet.
 pub fn nominal_glyph(codes: &[u32], glyphs: &[u32], span: usize, code: Code) -> Found
     requires { ⌜ Sound (fontOf (now codes) (now glyphs)) × Span (length (now codes)) span ⌝ }
     ensures { λ r. ⌜ numberFound r ≡ glyphOf (fontOf (now (codes .entry)) (now (glyphs .entry))) (code .0) ⌝ }

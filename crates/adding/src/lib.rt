@@ -1,18 +1,21 @@
 // Adding: the lookup of a list of rows, added to a draft. Rows are made rules, each one number; these are put into order and laid out as the columns that a writer takes.
 ghost use mathlib.Core.Path.{_≡_};
 ghost use mathlib.Core.List.{[], _∷_, map};
-ghost use Prim.Native.Nat.{_≤_};
+ghost use Prim.Native.Nat.{_*_, _≤_};
 ghost use lib.ListN.{length};
 ghost use Rattle.layouts.specs.Lookups.{listed};
 ghost use Rattle.fonts.specs.Font.{fontOf, Sound};
 ghost use Rattle.packing.specs.Packed.{unpacked};
 ghost use Rattle.synthesis.specs.Rules.{kindOf};
 ghost use Rattle.synthesis.specs.Made.{Collected};
-ghost use Rattle.drafts.specs.Entries.{entry, most};
+ghost use Rattle.drafts.specs.Entries.{entry, ruleLimit, most};
 ghost use Rattle.drafts.specs.Drafted.{Added};
 ghost use Rattle.adding.specs.Source.{sourceOf, Lent, rulesOf, entryOf, Roomy};
 use drafts::Draft;
 use layouts::Kind;
+
+// Rules of a lookup, at most.
+const RULE_LIMIT: usize = 1024;
 
 // The rules of rows in order, from the start of `rules` on; how many they are. `room` is as long as `rules`, and is lent for the work.
 fn order_rules(
@@ -67,7 +70,7 @@ fn push_rules(
     seconds: &mut [u16],
     scratch: &mut [u8],
 ) -> Draft
-    requires { ⌜ (1 ≤ n) × (n ≤ 3) × (length (now rules) ≤ 1024) × (length (now firsts) ≡ 3072) × (length (now seconds) ≡ 1024) × Roomy (kindOf n) draft (now scratch) ⌝ }
+    requires { ⌜ (1 ≤ n) × (n ≤ 3) × (length (now rules) ≤ ruleLimit) × (length (now firsts) ≡ 3 * ruleLimit) × (length (now seconds) ≡ ruleLimit) × Roomy (kindOf n) draft (now scratch) ⌝ }
     ensures { λ r. ⌜ Added (record { mask = mask; lookup = listed flags (kindOf n) (map (unpacked n) (now (rules .entry))) } ∷ []) (most (kindOf n)) draft (now (scratch .entry)) r (now (scratch .exit)) ⌝ }
 {
     packing::unpack(n, rules, firsts, seconds);
@@ -103,7 +106,7 @@ fn synthesize_in(
     seconds: &mut [u16],
     scratch: &mut [u8],
 ) -> Draft
-    requires { ⌜ Sound (fontOf (now codes) (now glyphs)) × Lent (sourceOf count n each k (now components) (now ligatures)) × Roomy (kindOf n) draft (now scratch) × (length (now rules) ≡ 1024) × (length (now room) ≡ 1024) × (length (now firsts) ≡ 3072) × (length (now seconds) ≡ 1024) ⌝ }
+    requires { ⌜ Sound (fontOf (now codes) (now glyphs)) × Lent (sourceOf count n each k (now components) (now ligatures)) × Roomy (kindOf n) draft (now scratch) × (length (now rules) ≡ ruleLimit) × (length (now room) ≡ ruleLimit) × (length (now firsts) ≡ 3 * ruleLimit) × (length (now seconds) ≡ ruleLimit) ⌝ }
     ensures { λ r. ⌜ Added (entryOf mask flags (kindOf n) (rulesOf (fontOf (now (codes .entry)) (now (glyphs .entry))) (sourceOf count n each k (now (components .entry)) (now (ligatures .entry))))) (most (kindOf n)) draft (now (scratch .entry)) r (now (scratch .exit)) ⌝ }
 {
     let made = order_rules(
@@ -154,10 +157,10 @@ pub fn synthesize_lookup(
     if mask == 0 {
         return draft;
     }
-    let mut rules = [0u64; 1024];
-    let mut room = [0u64; 1024];
-    let mut firsts = [0u16; 3072];
-    let mut seconds = [0u16; 1024];
+    let mut rules = [0u64; RULE_LIMIT];
+    let mut room = [0u64; RULE_LIMIT];
+    let mut firsts = [0u16; 3 * RULE_LIMIT];
+    let mut seconds = [0u16; RULE_LIMIT];
     synthesize_in(
         draft,
         mask,

@@ -1,4 +1,4 @@
--- The entries of a plan (document 01: "at most seven entries, each a mask and a byte length, and the lookups' bytes one after another"): `Entry` a mask and a lookup; `entry` the entry of rules, if there is one; `bytesOf`, `sizeOf`, `allBytes` the bytes of lookups, and how many; `seven`, `padded`, `masksOf`, `lengthsOf` what is said of entries, in seven places; `ruleLimit`, `most` how many rules a lookup of a plan has at most, and how many bytes.
+-- The entries of a plan (document 01: "at most seven entries, each a mask and a byte length, and the lookups' bytes one after another"): `Entry` a mask and a lookup; `entry` the entry of rules, if there is one; `bytesOf`, `sizeOf`, `allBytes` the bytes of lookups, and how many; `seven`, `padded`, `masksOf`, `lengthsOf` what is said of entries, in seven places; `ruleLimit`, `most` how many rules a lookup of a plan has at most, and how many bytes; `longestPlan`, `longestDirect` how many bytes a plan has at most.
 -- Assumes nothing.
 use mathlib.Core.Bool.{cond, _||_}
 use mathlib.Core.List.{List, [], _∷_, _++_, map}
@@ -51,3 +51,10 @@ ruleLimit = 1024
 abbrev pub most : Kind → ℕ
 most Single = 18 + 4 * ruleLimit
 most (Ligature n) = 18 + 6 * ruleLimit + ruleLimit * (4 + 2 * n)
+
+-- the bytes of the longest plan: four lookups of forms, one of ligatures of three components, two of two. And of the longest for a Windows-1256 font: three of forms, two of ligatures
+abbrev pub longestPlan : ℕ
+longestPlan = 4 * most Single + (most (Ligature 3) + 2 * most (Ligature 2))
+
+abbrev pub longestDirect : ℕ
+longestDirect = 3 * most Single + 2 * most (Ligature 2)

@@ -11,7 +11,7 @@ use Rattle.refusals.specs.declared.Verdict.{Verdict}
 use Rattle.refusals.specs.Numbers.{said}
 use Rattle.refusals.specs.Columns.{rising}
 use Rattle.refusals.specs.Left.{Left, After, leaves}
-use Rattle.drafts.specs.Entries.{Entry, allBytes, seven, masksOf, lengthsOf, ruleLimit}
+use Rattle.drafts.specs.Entries.{Entry, allBytes, seven, masksOf, lengthsOf, ruleLimit, longestPlan}
 use Rattle.drafts.specs.declared.Draft.{Draft}
 use Rattle.drafts.specs.Drafted.{Drafted}
 use Rattle.fallback.specs.declared.FallbackPlan.{FallbackPlan}
@@ -91,10 +91,10 @@ Settled entries area r left =
 abbrev pub Settles : Draft → List ℕ → List ℕ → FallbackPlan → List ℕ → Type 0
 Settles draft scratch area r left = (entries : List Entry) → Drafted entries draft scratch → Settled entries area r left
 
--- what is asked of the columns, as the tests have it; and the memory for the bytes of the longest plan, four lookups of 4,114 bytes, one of 16,402 and two of 14,354
+-- what is asked of the columns, as the tests have it; and memory for the bytes of the longest plan
 pub record Passed (i : Inputs) (scratch : List ℕ) : Type 0 where
   pub tested : first (lentRows i) ≡ 0
-  pub sized : length scratch ≡ 61566
+  pub sized : length scratch ≡ longestPlan
 
 -- the statement of the call: lent these inputs and an area, it may answer r and leave the area `left`
 abbrev pub Planning : Inputs → List ℕ → FallbackPlan → List ℕ → Type 0

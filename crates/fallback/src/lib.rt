@@ -6,6 +6,8 @@ ghost use lib.ListN.{length};
 ghost use Rattle.laws.specs.Rows.{first};
 ghost use Rattle.refusals.specs.Numbers.{said};
 ghost use Rattle.fonts.specs.Font.{fontOf, Sound};
+ghost use Rattle.layouts.specs.declared.Kind.the-variants.{Single};
+ghost use Rattle.drafts.specs.Entries.{ruleLimit, most, longestPlan};
 ghost use Rattle.drafts.specs.Drafted.{Reached};
 ghost use Rattle.fallback.specs.Plan.{inputsOf, fourForms, unicode, plan};
 ghost use Rattle.fallback.specs.Planned.{refusedBy, lentRows, Settled, Settles, Passed, Planning};
@@ -16,6 +18,9 @@ use refusals::Verdict;
 
 // Rows of a rule list, at most.
 const RULE_LIMIT: usize = 1024;
+
+// Bytes of a plan, at most: four lookups of 4,114, one of 16,402 and two of 14,354.
+const LONGEST_PLAN: usize = 61566;
 
 // Flags of a lookup that replaces marks, and passes over nothing.
 const NO_FLAGS: u16 = 0;
@@ -73,7 +78,7 @@ impl FallbackPlan {
         if verdict.number() != 0 {
             return FallbackPlan::refused(verdict);
         }
-        let mut scratch = [0u8; 61566];
+        let mut scratch = [0u8; LONGEST_PLAN];
         plan_in(
             masks,
             codes,
@@ -150,8 +155,8 @@ fn add_forms(
     forms: &[u16],
     scratch: &mut [u8],
 ) -> Draft
-    requires { ⌜ Sound (fontOf (now codes) (now glyphs)) × (length (now forms) ≡ length (now shaping) * 4) × (length (now shaping) ≤ 1024) × (length (now scratch) ≡ 61566) ⌝ }
-    ensures { λ r. ⌜ Reached (fourForms masks (fontOf (now (codes .entry)) (now (glyphs .entry))) (now (shaping .entry)) (now (forms .entry))) 4 16456 61566 r (now (scratch .exit)) ⌝ }
+    requires { ⌜ Sound (fontOf (now codes) (now glyphs)) × (length (now forms) ≡ length (now shaping) * 4) × (length (now shaping) ≤ ruleLimit) × (length (now scratch) ≡ longestPlan) ⌝ }
+    ensures { λ r. ⌜ Reached (fourForms masks (fontOf (now (codes .entry)) (now (glyphs .entry))) (now (shaping .entry)) (now (forms .entry))) 4 (4 * most Single) longestPlan r (now (scratch .exit)) ⌝ }
 {
     let mut draft = Draft::new();
     let mut k = 0;
@@ -191,7 +196,7 @@ fn new_unicode(
     scratch: &mut [u8],
 ) -> Draft
     requires { ⌜ Passed (inputsOf masks (now codes) (now glyphs) (now shaping) (now forms) (now «three_components») (now «three_ligatures») (now «two_components») (now «two_ligatures») (now «mark_components») (now «mark_ligatures»)) (now scratch) ⌝ }
-    ensures { λ r. ⌜ Reached (unicode (inputsOf masks (now (codes .entry)) (now (glyphs .entry)) (now (shaping .entry)) (now (forms .entry)) (now («three_components» .entry)) (now («three_ligatures» .entry)) (now («two_components» .entry)) (now («two_ligatures» .entry)) (now («mark_components» .entry)) (now («mark_ligatures» .entry)))) 7 61566 61566 r (now (scratch .exit)) ⌝ }
+    ensures { λ r. ⌜ Reached (unicode (inputsOf masks (now (codes .entry)) (now (glyphs .entry)) (now (shaping .entry)) (now (forms .entry)) (now («three_components» .entry)) (now («three_ligatures» .entry)) (now («two_components» .entry)) (now («two_ligatures» .entry)) (now («mark_components» .entry)) (now («mark_ligatures» .entry)))) 7 longestPlan longestPlan r (now (scratch .exit)) ⌝ }
 {
     let forms_in = add_forms(masks, codes, glyphs, shaping, forms, scratch);
     let threes_in = adding::synthesize_lookup(

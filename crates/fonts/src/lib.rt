@@ -57,15 +57,17 @@ pub fn nominal_glyph(codes: &[u32], glyphs: &[u32], span: usize, code: Code) -> 
 }
 
 // The glyph of a code that a rule may use; 65,536 where there is none, or one above 65,535.
-pub fn glyph_for_codepoint(codes: &[u32], glyphs: &[u32], span: usize, code: u16) -> u32
+pub fn glyph_for_codepoint(codes: &[u32], glyphs: &[u32], span: usize, code: Code) -> Glyph
     requires { ⌜ Sound (fontOf (now codes) (now glyphs)) × Span (length (now codes)) span ⌝ }
-    ensures { λ r. ⌜ r ≡ min (glyphOf (fontOf (now (codes .entry)) (now (glyphs .entry))) code) 65536 ⌝ }
+    ensures { λ r. ⌜ r .0 ≡ min (glyphOf (fontOf (now (codes .entry)) (now (glyphs .entry))) (code .0)) 65536 ⌝ }
 {
-    match nominal_glyph(codes, glyphs, span, Code(code as u32)) {
+    match nominal_glyph(codes, glyphs, span, code) {
         Found::At(glyph) => {
-            let g = glyph.0;
-            if 65535 < g { 65536 } else { g }
+            if 65535 < glyph.0 {
+                return Glyph(65536);
+            }
+            glyph
         }
-        Found::Absent => 65536,
+        Found::Absent => Glyph(65536),
     }
 }

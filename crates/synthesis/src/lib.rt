@@ -7,6 +7,7 @@ ghost use Rattle.layouts.specs.declared.Kind.the-variants.{Single, Ligature};
 ghost use Rattle.fonts.specs.Font.{fontOf, Sound, Span};
 ghost use Rattle.synthesis.specs.Rules.{rows, ruled, kindOf};
 ghost use Rattle.synthesis.specs.Made.{packedIn, rowOf, gives, pair, Collected};
+use letters::Code;
 
 // What a row gives: a rule as one number, or none.
 pub enum Row {
@@ -22,11 +23,11 @@ fn single_rule(codes: &[u32], glyphs: &[u32], span: usize, code: u16, form: u16)
     if form == 0 {
         return Row::Dropped;
     }
-    let target = fonts::glyph_for_codepoint(codes, glyphs, span, form);
+    let target = fonts::glyph_for_codepoint(codes, glyphs, span, Code(form as u32)).0;
     if 65535 < target {
         return Row::Dropped;
     }
-    let glyph = fonts::glyph_for_codepoint(codes, glyphs, span, code);
+    let glyph = fonts::glyph_for_codepoint(codes, glyphs, span, Code(code as u32)).0;
     if 65535 < glyph {
         return Row::Dropped;
     }
@@ -49,7 +50,7 @@ fn ligature_rule(
     requires { ⌜ Sound (fontOf (now codes) (now glyphs)) × Span (length (now codes)) span × (n ≤ 3) × (at + n ≤ length (now components)) ⌝ }
     ensures { λ r. ⌜ packedIn r ≡ gives (fontOf (now (codes .entry)) (now (glyphs .entry))) (Ligature n) (rowOf n (now (components .entry)) at ligature) ⌝ }
 {
-    let whole = fonts::glyph_for_codepoint(codes, glyphs, span, ligature);
+    let whole = fonts::glyph_for_codepoint(codes, glyphs, span, Code(ligature as u32)).0;
     if 65535 < whole {
         return Row::Dropped;
     }
@@ -57,7 +58,12 @@ fn ligature_rule(
     let mut k = n;
     while 0 < k {
         k -= 1;
-        let part = fonts::glyph_for_codepoint(codes, glyphs, span, components[at + k]);
+        let part = fonts::glyph_for_codepoint(
+            codes,
+            glyphs,
+            span,
+            Code(components[at + k] as u32),
+        ).0;
         if 65535 < part {
             return Row::Dropped;
         }

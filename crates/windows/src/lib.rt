@@ -5,6 +5,7 @@ ghost use Prim.Native.Nat.{_<_, _≤_};
 ghost use lib.Dec.{eqb};
 ghost use lib.ListN.{length};
 ghost use Rattle.fonts.specs.Font.{fontOf, Sound, Span, glyphOf};
+ghost use Rattle.drafts.specs.Entries.{longestDirect};
 ghost use Rattle.drafts.specs.Drafted.{Drafted};
 ghost use Rattle.windows.specs.Windows.{signed, direct};
 ghost use Rattle.windows.specs.Windows.{windows as windowsOf};
@@ -206,7 +207,7 @@ pub fn is_win1256_font(codes: &[u32], glyphs: &[u32]) -> bool
 
 // The five lookups, each if it has a mask.
 fn add_tables(masks: [u32; 5], scratch: &mut [u8]) -> Draft
-    requires { ⌜ (41050 ≤ length (now scratch)) × (length (now scratch) < 4294967296) ⌝ }
+    requires { ⌜ (longestDirect ≤ length (now scratch)) × (length (now scratch) < 4294967296) ⌝ }
     ensures { λ r. ⌜ Drafted (windowsOf masks) r (now (scratch .exit)) ⌝ }
 {
     let two = Kind::Ligature(2);
@@ -260,7 +261,7 @@ fn add_tables(masks: [u32; 5], scratch: &mut [u8]) -> Draft
 
 // The plan of such a font; no entry where the font has not the signature.
 pub fn new_win1256(masks: [u32; 5], codes: &[u32], glyphs: &[u32], scratch: &mut [u8]) -> Draft
-    requires { ⌜ Sound (fontOf (now codes) (now glyphs)) × (41050 ≤ length (now scratch)) × (length (now scratch) < 4294967296) ⌝ }
+    requires { ⌜ Sound (fontOf (now codes) (now glyphs)) × (longestDirect ≤ length (now scratch)) × (length (now scratch) < 4294967296) ⌝ }
     ensures { λ r. ⌜ Drafted (direct masks (fontOf (now (codes .entry)) (now (glyphs .entry)))) r (now (scratch .exit)) ⌝ }
 {
     if is_win1256_font(codes, glyphs) {

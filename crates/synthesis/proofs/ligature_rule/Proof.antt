@@ -19,7 +19,7 @@ abbrev μ-loop : tie.MeasureT-loop
 -- one more component is packed
 next :
     (c : tie.Else2 Inv-loop μ-loop)
-    → Packing (fontOf (c .before .before .before .before .before .before .before .before .before .before .args .codes .now) (c .before .before .before .before .before .before .before .before .before .before .args .glyphs .now)) (c .before .before .before .before .before .before .before .before .before .before .args .n) (c .before .before .before .before .before .before .before .before .before .before .args .components .now) (c .before .before .before .before .before .before .before .before .before .before .args .at) (c .before .before .before .before .before .before .glyph-for-codepoint .result) (c .before .before .before .before .loop .k - 1) (c .before .before .before .before .loop .x * 65536 + c .before .glyph-for-codepoint2 .result)
+    → Packing (fontOf (c .before .before .before .before .before .before .before .before .before .before .args .codes .now) (c .before .before .before .before .before .before .before .before .before .before .args .glyphs .now)) (c .before .before .before .before .before .before .before .before .before .before .args .n) (c .before .before .before .before .before .before .before .before .before .before .args .components .now) (c .before .before .before .before .before .before .before .before .before .before .args .at) (c .before .before .before .before .before .before .glyph-for-codepoint .result .0) (c .before .before .before .before .loop .k - 1) (c .before .before .before .before .loop .x * 65536 + c .before .glyph-for-codepoint2 .result .0)
 next c =
     let g = c .before in
     let t = g .before .before in
@@ -28,7 +28,7 @@ next c =
     let a = s .args in
     packing-next (fontOf (a .codes .now) (a .glyphs .now)) (a .n) (a .components .now) (a .at) (s .pre .3) (l .loop .inv) (l .loop .k - 1) (omega (arith, t .loop-test .taken)) (g .glyph-for-codepoint2 .ensures) (omega (arith, c .if2 .left))
 
-bound : (c : tie.Else2 Inv-loop μ-loop) → c .before .before .before .before .loop .x * 65536 + c .before .glyph-for-codepoint2 .result < 18446744073709551616
+bound : (c : tie.Else2 Inv-loop μ-loop) → c .before .before .before .before .loop .x * 65536 + c .before .glyph-for-codepoint2 .result .0 < 18446744073709551616
 bound c =
     let e = c .before .before .before .before .before in
     let s = e .before .before .before .before .before in
@@ -58,15 +58,19 @@ loop-holds c =
 sub-k : tie.Need-sub-k Inv-loop μ-loop
 sub-k c = omega (arith, c .loop-test .taken)
 
-add-glyph-for-codepoint : tie.Need-add-glyph-for-codepoint Inv-loop μ-loop
-add-glyph-for-codepoint c = omega arith
+add-t18 : tie.Need-add-t18 Inv-loop μ-loop
+add-t18 c = omega arith
 
-mul-glyph-for-codepoint : tie.Need-mul-glyph-for-codepoint Inv-loop μ-loop
-mul-glyph-for-codepoint c = omega arith
+mul-t19 : tie.Need-mul-t19 Inv-loop μ-loop
+mul-t19 c = omega arith
 
-shared-slice-read-glyph-for-codepoint :
-    tie.Need-shared-slice-read-glyph-for-codepoint Inv-loop μ-loop
-shared-slice-read-glyph-for-codepoint c = omega arith
+shared-slice-read-t21 : tie.Need-shared-slice-read-t21 Inv-loop μ-loop
+shared-slice-read-t21 c = omega arith
+
+cast-t22 : tie.Need-cast-t22 Inv-loop μ-loop
+cast-t22 c =
+    let l = c .before .before in
+    omega (arith, c .shared-slice-known4 .given (l .before .before .before .before .before .before .args .at + (l .loop .k - 1)))
 
 glyph-for-codepoint-requires-2 : tie.Need-glyph-for-codepoint-requires-2 Inv-loop μ-loop
 glyph-for-codepoint-requires-2 c κs =
@@ -117,9 +121,10 @@ ligature-rule-spec =
     cast-x
     loop-holds
     sub-k
-    add-glyph-for-codepoint
-    mul-glyph-for-codepoint
-    shared-slice-read-glyph-for-codepoint
+    add-t18
+    mul-t19
+    shared-slice-read-t21
+    cast-t22
     glyph-for-codepoint-requires-2
     returns-2
     mul-x

@@ -47,17 +47,17 @@ returns-4 c =
     let a = e .before .before .before .args in
     single-equal (fontOf (a .codes .now) (a .glyphs .now)) (a .code) (a .form) (e .if1 .left) (g .glyph-for-codepoint .ensures) (omega (arith, l .if2 .left)) (d .glyph-for-codepoint2 .ensures) (omega (arith, m .if3 .left)) (c .if4 .taken)
 
-cast-t9 : tie.Need-cast-t9
-cast-t9 c = search needs
+cast-t12 : tie.Need-cast-t12
+cast-t12 c = search needs
 
-mul-t10 : tie.Need-mul-t10
-mul-t10 c = search needs
+mul-t13 : tie.Need-mul-t13
+mul-t13 c = search needs
 
-cast-t11 : tie.Need-cast-t11
-cast-t11 c = search needs
+cast-t14 : tie.Need-cast-t14
+cast-t14 c = search needs
 
-add-t12 : tie.Need-add-t12
-add-t12 c = search needs
+add-t15 : tie.Need-add-t15
+add-t15 c = search needs
 
 returns-5 : tie.Need-returns-5
 returns-5 c =
@@ -79,8 +79,8 @@ single-rule-spec =
     glyph-for-codepoint-requires-2
     returns-3
     returns-4
-    cast-t9
-    mul-t10
-    cast-t11
-    add-t12
+    cast-t12
+    mul-t13
+    cast-t14
+    add-t15
     returns-5)

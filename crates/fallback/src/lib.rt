@@ -35,7 +35,7 @@ pub struct FallbackPlan {
 
 impl FallbackPlan {
     // No plan, for this reason.
-    fn refused(verdict: Verdict) -> FallbackPlan
+    fn none(verdict: Verdict) -> FallbackPlan
         ensures { λ r. ⌜ r ≡ refusedBy verdict ⌝ }
     {
         FallbackPlan {
@@ -76,7 +76,7 @@ impl FallbackPlan {
             mark_ligatures,
         );
         if verdict.number() != 0 {
-            return FallbackPlan::refused(verdict);
+            return FallbackPlan::none(verdict);
         }
         let mut scratch = [0u8; LONGEST_PLAN];
         plan_in(
@@ -104,7 +104,7 @@ fn settle(draft: Draft, scratch: &[u8], area: &mut [u8]) -> FallbackPlan
 {
     let n = draft.end;
     if area.len() < n {
-        return FallbackPlan::refused(Verdict::Refused(Refusal::NoRoom));
+        return FallbackPlan::none(Verdict::Refused(Refusal::NoRoom));
     }
     copying::copy_bytes(scratch, 0, n, area, 0);
     let masks = draft.masks;

@@ -63,10 +63,11 @@ pub fn glyph_for_codepoint(codes: &[u32], glyphs: &[u32], span: usize, code: Cod
 {
     match nominal_glyph(codes, glyphs, span, code) {
         Found::At(glyph) => {
-            if 65535 < glyph.0 {
+            let g = glyph.0;
+            if 65535 < g {
                 return Glyph(65536);
             }
-            glyph
+            Glyph(g)
         }
         Found::Absent => Glyph(65536),
     }

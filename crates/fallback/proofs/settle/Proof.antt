@@ -7,16 +7,16 @@ use Rattle.fallback.proofs.settle.Tie as tie
 use Rattle.fallback.proofs.settle.Reads as reads
 use Rattle.fallback.proofs.settle.Lts as lts
 use Rattle.copying.proofs.copy_bytes.Reads as copy-bytes-reads
-use Rattle.fallback.proofs.FallbackPlan.refused.Reads as refused-reads
+use Rattle.fallback.proofs.FallbackPlan.none.Reads as none-reads
 
-refused-requires : tie.Need-refused-requires
-refused-requires c κs = search needs
+none-requires : tie.Need-none-requires
+none-requires c κs = search needs
 
 returns : tie.Need-returns
 returns c =
     let t = c .before in
     let a = t .before .before .before .args in
-    too-short (a .draft) (a .scratch .now) (a .area .now) (t .if1 .taken) (c .refused .result) (c .refused .ensures)
+    too-short (a .draft) (a .scratch .now) (a .area .now) (t .if1 .taken) (c .none .result) (c .none .ensures)
 
 copy-bytes-requires : tie.Need-copy-bytes-requires
 copy-bytes-requires c κs = search needs
@@ -33,4 +33,4 @@ returns-2 c =
 
 pub settle-spec : {M : Type 1} → statement M
 settle-spec =
-    tie.close (tie.spec refused-requires returns copy-bytes-requires same-length returns-2)
+    tie.close (tie.spec none-requires returns copy-bytes-requires same-length returns-2)

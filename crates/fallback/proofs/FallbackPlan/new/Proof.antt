@@ -10,7 +10,7 @@ use Rattle.fallback.proofs.FallbackPlan.new.Statement.{statement}
 use Rattle.fallback.proofs.FallbackPlan.new.Tie as tie
 use Rattle.fallback.proofs.FallbackPlan.new.Reads as reads
 use Rattle.fallback.proofs.FallbackPlan.new.Lts as lts
-use Rattle.fallback.proofs.FallbackPlan.refused.Reads as FallbackPlan-refused-reads
+use Rattle.fallback.proofs.FallbackPlan.none.Reads as none-reads
 use Rattle.fallback.proofs.plan_in.Reads as plan-in-reads
 use Rattle.fallback.proofs.refused.Reads as refused-reads
 use Rattle.refusals.proofs.Verdict.number.Reads as number-reads
@@ -30,8 +30,8 @@ refused-requires c κs = search needs
 number-requires : tie.Need-number-requires
 number-requires c κs = search needs
 
-refused-requires-2 : tie.Need-refused-requires-2
-refused-requires-2 c κs = search needs
+none-requires : tie.Need-none-requires
+none-requires c κs = search needs
 
 returns : tie.Need-returns
 returns c =
@@ -39,7 +39,7 @@ returns c =
     let n = t .before in
     let r = n .before in
     let b = r .before .before .before .before .before .before .before .before .before .before .before .before in
-    refused-planning (inputs b) (b .args .area .now) (r .refused .result) (r .refused .ensures) (λ z. t .if1 .taken (n .number .ensures ∙ z)) (c .refused2 .result) (c .refused2 .ensures)
+    refused-planning (inputs b) (b .args .area .now) (r .refused .result) (r .refused .ensures) (λ z. t .if1 .taken (n .number .ensures ∙ z)) (c .none .result) (c .none .ensures)
 
 slice-aggregate-plan-in : tie.Need-slice-aggregate-plan-in
 slice-aggregate-plan-in c = search needs
@@ -63,7 +63,7 @@ new-spec =
     (tie.spec
     refused-requires
     number-requires
-    refused-requires-2
+    none-requires
     returns
     slice-aggregate-plan-in
     plan-in-requires

@@ -10,7 +10,7 @@ ghost use Rattle.refusals.specs.Columns.{lineLimit};
 ghost use Rattle.blocks.specs.Marks.{mark, marks};
 ghost use Rattle.marks.specs.Modifiers.{modifier};
 ghost use Rattle.marks.specs.Passes.{Over, reorderClasses, newClass, moves, passes, ranges, numbered};
-ghost use Rattle.marks.specs.Reordered.{requestOf, columnsOf, listed, rowsOf, Reordering};
+ghost use Rattle.marks.specs.Reordered.{requestOf, columnsOf, listed, rowsOf, numberSaid, rangesSaid, Reordering};
 use letters::Code;
 use refusals::Refusal;
 use refusals::Verdict;
@@ -32,6 +32,28 @@ pub enum Merged {
 pub enum Answer {
     Reordered(Merged),
     Refused(Refusal),
+}
+
+impl Answer {
+    // Document 01's number, 0 for an accepted call.
+    pub fn number(self) -> u8
+        ensures { λ r. ⌜ r ≡ numberSaid self ⌝ }
+    {
+        match self {
+            Answer::Reordered(_) => 0,
+            Answer::Refused(refusal) => refusal.number(),
+        }
+    }
+
+    // The ranges: a refused call has none.
+    pub fn merged(self) -> Merged
+        ensures { λ r. ⌜ listed r ≡ rangesSaid self ⌝ }
+    {
+        match self {
+            Answer::Reordered(merged) => merged,
+            Answer::Refused(_) => Merged::Nothing,
+        }
+    }
 }
 
 // UTR 53's modifier combining marks.

@@ -1,8 +1,9 @@
 // Reading: the public call that reads a lookup back into lent columns.
+ghost use mathlib.Core.Path.{_≡_};
 ghost use Prim.Native.Nat.{_≤_};
 ghost use Rattle.layouts.specs.declared.Kind.the-variants.{Single, Ligature};
 ghost use Rattle.recognizing.specs.Recognized.{Held};
-ghost use Rattle.reading.specs.Read.{columns, Reading};
+ghost use Rattle.reading.specs.Read.{columns, typeOf, componentsOf, numberSaid, Reading};
 use layouts::Kind;
 use recognizing::Recognized;
 use refusals::Refusal;
@@ -18,6 +19,38 @@ pub struct Lookup {
 pub enum Answer {
     Read(Lookup),
     Refused(Refusal),
+}
+
+impl Answer {
+    // Document 01's number, 0 for an accepted call.
+    pub fn number(self) -> u8
+        ensures { λ r. ⌜ r ≡ numberSaid self ⌝ }
+    {
+        match self {
+            Answer::Read(_) => 0,
+            Answer::Refused(refusal) => refusal.number(),
+        }
+    }
+}
+
+// OpenType's number of a kind of lookup.
+pub fn type_of(kind: Kind) -> u8
+    ensures { λ r. ⌜ r ≡ typeOf kind ⌝ }
+{
+    match kind {
+        Kind::Single => 1,
+        Kind::Ligature(_) => 4,
+    }
+}
+
+// The component number of a kind of lookup, 0 of a single one.
+pub fn components_of(kind: Kind) -> u8
+    ensures { λ r. ⌜ r ≡ componentsOf kind ⌝ }
+{
+    match kind {
+        Kind::Single => 0,
+        Kind::Ligature(n) => n,
+    }
 }
 
 // The single lookup that the bytes are, if the columns have room for it.

@@ -3,7 +3,7 @@ ghost use mathlib.Core.Path.{_≡_};
 ghost use lib.ListN.{length};
 ghost use Rattle.laws.specs.Rows.{first};
 ghost use Rattle.refusals.specs.Numbers.{said};
-ghost use Rattle.recording.specs.Recorded.{newAction, newActions, some, rowsOf, requestOf, Recording};
+ghost use Rattle.recording.specs.Recorded.{newAction, newActions, some, rowsOf, requestOf, numberSaid, recordedSaid, Recording};
 use letters::Action;
 use refusals::Refusal;
 use refusals::Verdict;
@@ -12,6 +12,28 @@ use refusals::Verdict;
 pub enum Answer {
     Recorded(bool),
     Refused(Refusal),
+}
+
+impl Answer {
+    // Document 01's number, 0 for an accepted call.
+    pub fn number(self) -> u8
+        ensures { λ r. ⌜ r ≡ numberSaid self ⌝ }
+    {
+        match self {
+            Answer::Recorded(_) => 0,
+            Answer::Refused(refusal) => refusal.number(),
+        }
+    }
+
+    // Whether any record was recorded: a refused call has recorded none.
+    pub fn recorded(self) -> bool
+        ensures { λ r. ⌜ r ≡ recordedSaid self ⌝ }
+    {
+        match self {
+            Answer::Recorded(any) => any,
+            Answer::Refused(_) => false,
+        }
+    }
 }
 
 // The action of a record afterwards.

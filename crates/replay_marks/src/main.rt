@@ -1,44 +1,24 @@
 // Replays cases of reordered marks. Go in: codes u32, classes u8; start u32, end u32; the two lent class numbers u8 x2. Come out: number u8; ranges
 // u32, start and end of each; codes, classes.
-use marks::Answer;
 use marks::Merged;
 use replays::Case;
 use tallies::Outcome;
 
-// A place as a case has it: one past all of these becomes the last, where no part ends.
-fn narrow(x: usize) -> u32 {
-    if x < 4294967295 {
-        return x as u32;
-    }
-    4294967295
-}
-
-// The number of an answer, 0 for an accepted call.
-fn number(answer: Answer) -> u8 {
-    match answer {
-        Answer::Reordered(_) => 0,
-        Answer::Refused(refusal) => refusal.number(),
-    }
-}
-
-// The column at the cursor has these ranges.
+// The column at the cursor has these ranges. (A place past all of 32 bits becomes the last, where no part ends.)
 fn same_merged(body: &[u8], at: &mut usize, merged: Merged) -> bool {
     match merged {
         Merged::Nothing => cases::same_u32(body, at, &[]),
-        Merged::One(a) => cases::same_u32(body, at, &[narrow(a.from), narrow(a.to)]),
+        Merged::One(a) => cases::same_u32(body, at, &[cases::narrow(a.from), cases::narrow(a.to)]),
         Merged::Two(a, b) => cases::same_u32(
             body,
             at,
-            &[narrow(a.from), narrow(a.to), narrow(b.from), narrow(b.to)],
+            &[
+                cases::narrow(a.from),
+                cases::narrow(a.to),
+                cases::narrow(b.from),
+                cases::narrow(b.to),
+            ],
         ),
-    }
-}
-
-// The column at the cursor has the ranges of an answer: a refused call has none.
-fn same_ranges(body: &[u8], at: &mut usize, answer: Answer) -> bool {
-    match answer {
-        Answer::Reordered(merged) => same_merged(body, at, merged),
-        Answer::Refused(_) => same_merged(body, at, Merged::Nothing),
     }
 }
 
@@ -63,8 +43,8 @@ fn replay(body: &[u8]) -> Outcome {
         lent[0],
         lent[1],
     );
-    let numbered = cases::same_u8(body, &mut at, &[number(answer)]);
-    let merged = same_ranges(body, &mut at, answer);
+    let numbered = cases::same_u8(body, &mut at, &[answer.number()]);
+    let merged = same_merged(body, &mut at, answer.merged());
     let coded = cases::same_u32(body, &mut at, codes);
     let classed = cases::same_u8(body, &mut at, classes);
     let formed = (starts == 1) & ((ends == 1) & ((given == 2) & (at == body.len())));

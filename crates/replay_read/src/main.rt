@@ -1,7 +1,6 @@
 // Replays cases of lookups that are read back. Go in: bytes u8; glyphs u16 (or flat components) and substitutes u16 (or ligatures) before the
 // call. Come out: number u8; kind u8 (0 refused, 1 single, 4 ligature); number of components u8 (0 unless ligature); flags u16; length u32
 // (rules); glyphs, substitutes.
-use layouts::Kind;
 use reading::Answer;
 use reading::Lookup;
 use replays::Case;
@@ -15,30 +14,13 @@ struct Report {
     len: u32,
 }
 
-// The number of an answer, 0 for an accepted call.
-fn number(answer: Answer) -> u8 {
-    match answer {
-        Answer::Read(_) => 0,
-        Answer::Refused(refusal) => refusal.number(),
-    }
-}
-
 fn told(lookup: Lookup) -> Report {
-    let len = cases::narrow(lookup.len);
     let kind = lookup.kind;
-    match kind {
-        Kind::Single => Report {
-            kind: 1,
-            components: 0,
-            flags: lookup.flags,
-            len: len,
-        },
-        Kind::Ligature(n) => Report {
-            kind: 4,
-            components: n,
-            flags: lookup.flags,
-            len: len,
-        },
+    Report {
+        kind: reading::type_of(kind),
+        components: reading::components_of(kind),
+        flags: lookup.flags,
+        len: cases::narrow(lookup.len),
     }
 }
 
@@ -65,7 +47,7 @@ fn replay(body: &[u8]) -> Outcome {
     let substitutes = columns::take_u16(body, &mut at, &mut substitutes_room);
     let answer = reading::read_lookup(bytes, glyphs, substitutes);
     let what = said(answer);
-    let numbered = cases::same_u8(body, &mut at, &[number(answer)]);
+    let numbered = cases::same_u8(body, &mut at, &[answer.number()]);
     let named = cases::same_u8(body, &mut at, &[what.kind]);
     let counted = cases::same_u8(body, &mut at, &[what.components]);
     let flagged = cases::same_u16(body, &mut at, &[what.flags]);

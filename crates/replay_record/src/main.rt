@@ -1,24 +1,7 @@
 // Replays cases of recording for stretching. Go in: stch mask u32; multiplied u8, components u8; actions u8 before the call. Come out: number u8;
 // recorded u8; actions.
-use recording::Answer;
 use replays::Case;
 use tallies::Outcome;
-
-// The number of an answer, 0 for an accepted call.
-fn number(answer: Answer) -> u8 {
-    match answer {
-        Answer::Recorded(_) => 0,
-        Answer::Refused(refusal) => refusal.number(),
-    }
-}
-
-// Whether any was recorded, 1 for yes: a refused call has recorded none.
-fn recorded(answer: Answer) -> u8 {
-    match answer {
-        Answer::Recorded(any) => any as u8,
-        Answer::Refused(_) => 0,
-    }
-}
 
 // Makes the call of a case and compares. Its rooms are its own, as in `replay_join`.
 fn replay(body: &[u8]) -> Outcome {
@@ -30,8 +13,8 @@ fn replay(body: &[u8]) -> Outcome {
     let components = columns::view_u8(body, &mut at, 4200);
     let actions = columns::take_u8(body, &mut at, &mut actions_room);
     let answer = recording::record_stch(mask[0], multiplied, components, actions);
-    let numbered = cases::same_u8(body, &mut at, &[number(answer)]);
-    let told = cases::same_u8(body, &mut at, &[recorded(answer)]);
+    let numbered = cases::same_u8(body, &mut at, &[answer.number()]);
+    let told = cases::same_u8(body, &mut at, &[answer.recorded() as u8]);
     let acted = cases::same_u8(body, &mut at, actions);
     let formed = (given == 1) & (at == body.len());
     tallies::judged(formed, numbered & (told & acted))

@@ -2,24 +2,7 @@
 // advances i32, offsets i32; the seven output columns before the call, in the same order. Come out: number u8; length u32; the seven
 // output columns.
 use replays::Case;
-use stretching::Answer;
 use tallies::Outcome;
-
-// The number of an answer, 0 for an accepted call.
-fn number(answer: Answer) -> u8 {
-    match answer {
-        Answer::Stretched(_) => 0,
-        Answer::Refused(refusal) => refusal.number(),
-    }
-}
-
-// The length of an answer: a refused call has none.
-fn length(answer: Answer) -> u32 {
-    match answer {
-        Answer::Stretched(n) => cases::narrow(n),
-        Answer::Refused(_) => 0,
-    }
-}
 
 // Makes the call of a case and compares. Its rooms are its own, as in `replay_join`.
 fn replay(body: &[u8]) -> Outcome {
@@ -69,8 +52,8 @@ fn replay(body: &[u8]) -> Outcome {
         to_advances,
         to_offsets,
     );
-    let numbered = cases::same_u8(body, &mut at, &[number(answer)]);
-    let counted = cases::same_u32(body, &mut at, &[length(answer)]);
+    let numbered = cases::same_u8(body, &mut at, &[answer.number()]);
+    let counted = cases::same_u32(body, &mut at, &[cases::narrow(answer.length())]);
     let glyphs_same = cases::same_u32(body, &mut at, to_glyphs);
     let widths_same = cases::same_i32(body, &mut at, to_widths);
     let categories_same = cases::same_u8(body, &mut at, to_categories);

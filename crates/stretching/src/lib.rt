@@ -7,7 +7,7 @@ ghost use Rattle.refusals.specs.Columns.{lineLimit, atMost};
 ghost use Rattle.letters.specs.Actions.{repeating};
 ghost use Rattle.runs.specs.Records.{columns};
 ghost use Rattle.runs.specs.Measured.{Even};
-ghost use Rattle.stretching.specs.Stretching.{stretchedLimit, requestOf, newLine, differing, lacking, NewLength, Judging, Stretching};
+ghost use Rattle.stretching.specs.Stretching.{stretchedLimit, requestOf, newLine, differing, lacking, numberSaid, lengthSaid, NewLength, Judging, Stretching};
 use letters::Action;
 use letters::Category;
 use refusals::Refusal;
@@ -19,6 +19,28 @@ const STRETCHED_LIMIT: usize = 16384;
 pub enum Answer {
     Stretched(usize),
     Refused(Refusal),
+}
+
+impl Answer {
+    // Document 01's number, 0 for an accepted call.
+    pub fn number(self) -> u8
+        ensures { λ r. ⌜ r ≡ numberSaid self ⌝ }
+    {
+        match self {
+            Answer::Stretched(_) => 0,
+            Answer::Refused(refusal) => refusal.number(),
+        }
+    }
+
+    // How many records there are: a refused call has laid none.
+    pub fn length(self) -> usize
+        ensures { λ r. ⌜ r ≡ lengthSaid self ⌝ }
+    {
+        match self {
+            Answer::Stretched(n) => n,
+            Answer::Refused(_) => 0,
+        }
+    }
 }
 
 // Some column of the line is not of `n` records.

@@ -1,0 +1,3 @@
+-- What the contracts of `thawtrundle` cite beside the definitions of the calls themselves.
+-- Assumes nothing.
+pub mod Told

@@ -59,6 +59,16 @@ impl Setting {
         self
     }
 
+    /// The feature masks.
+    pub fn features(&self) -> [u32; 7] {
+        self.features
+    }
+
+    /// Whether the line is Mongolian.
+    pub fn is_mongolian(&self) -> bool {
+        self.mongolian
+    }
+
     fn around(&self) -> Around<'_> {
         Around {
             pre_types: &self.pre_types,

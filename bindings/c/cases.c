@@ -9,10 +9,10 @@ void *memset(void *to, int byte, size_t count);
 size_t strlen(const char *text);
 
 enum {
-    GUARD = 64,           /* bytes before and behind each room */
+    GUARD = 64, /* bytes before and behind each room */
     GUARD_BYTE = 0x5B,
-    ARENA = 2097152,      /* all rooms of a case, with their guards */
-    TOLD = 10             /* cases that are named, at most */
+    ARENA = 2097152, /* bytes of all rooms of a case, with their guards */
+    TOLD = 10        /* cases that are named, at most */
 };
 
 static uint8_t body[BODY_ROOM];

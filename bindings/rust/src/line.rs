@@ -97,7 +97,7 @@ pub struct Change {
 /// Its actions and masks are always those that joining its present letters gives in its setting. There is no `Line` that is not
 /// joined. What joining depends on, letters, base masks and setting, is owned here and can only be looked at: a letter is altered
 /// by [`Line::replace`], which renews the forms that go by it, and the setting by [`Line::rejoin`], which joins the line again. So no
-/// safe code can hold a form that is out of date.
+/// safe code can make a form of it out of date.
 #[derive(Clone, Debug, PartialEq, Eq)]
 pub struct Line {
     setting: Setting,

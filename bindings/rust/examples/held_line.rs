@@ -20,7 +20,9 @@ fn show(what: &str, line: &Line) {
 
 fn alter(line: &mut Line, place: usize, letter: Letter) -> Result<(), Refusal> {
     println!("{:04X} at {place}:", letter.code);
-    for change in line.replace(place, letter)? {
+    let old = line.clone();
+    line.replace(place, letter)?;
+    for change in line.changes_from(&old) {
         println!("  {} {:?}, was {:?}", change.place, change.to, change.from);
     }
     Ok(())

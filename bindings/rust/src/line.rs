@@ -150,11 +150,11 @@ impl Line {
         )
     }
 
-    /// Puts a letter in the place of another, renews the forms that go by it, and says which actions have changed, in their order.
+    /// Puts a letter in the place of another, and renews the forms that go by it. Beyond the tests of the columns it costs what stands
+    /// around the place.
     ///
     /// Refused is a place at or past the length ([`Refusal::Place`]); the line is then as it was.
-    pub fn replace(&mut self, place: usize, letter: Letter) -> Result<Vec<Change>, Refusal> {
-        let before = self.actions.clone();
+    pub fn replace(&mut self, place: usize, letter: Letter) -> Result<(), Refusal> {
         let request =
             Request { place, code: letter.code, joining_type: letter.joining_type.number(), category: letter.category.number() };
         calls::replace_letter(
@@ -166,9 +166,15 @@ impl Line {
             &mut self.actions,
             &mut self.masks,
             &request,
-        )?;
-        let changed = (0..before.len()).filter(|&place| before[place] != self.actions[place]);
-        Ok(changed.map(|place| Change { place, from: action(before[place]), to: self.action(place) }).collect())
+        )
+    }
+
+    /// The records whose action is another than in a copy made before letters were replaced, in their order. It looks at all of them.
+    pub fn changes_from(&self, old: &Line) -> Vec<Change> {
+        let both = old.actions.iter().zip(&self.actions).enumerate();
+        both.filter(|(_, (from, to))| from != to)
+            .map(|(place, (&from, &to))| Change { place, from: action(from), to: action(to) })
+            .collect()
     }
 
     /// How many records the line has.

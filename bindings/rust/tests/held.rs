@@ -46,7 +46,15 @@ fn a_held_line_is_never_out_of_date() {
             let place = draw.below(length as u64 + 1) as usize;
             let old = line.clone();
             match line.replace(place, draw.letter()) {
-                Ok(changes) => assert!(changes.iter().all(|change| change.from == old.action(change.place))),
+                Ok(()) => {
+                    let told = line.changes_from(&old);
+                    assert!(told
+                        .iter()
+                        .all(|change| change.from == old.action(change.place) && change.to == line.action(change.place)));
+                    assert!(
+                        (0..length).all(|at| old.action(at) == line.action(at) || told.iter().any(|change| change.place == at))
+                    );
+                }
                 Err(refusal) => {
                     assert_eq!((refusal, place), (Refusal::Place, length));
                     assert_eq!(line, old);

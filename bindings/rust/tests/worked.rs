@@ -69,7 +69,9 @@ fn mongolian_selectors_take_the_action_before_them() {
 #[test]
 fn a_letter_is_replaced() {
     let mut line = joined(&[], &[D, D, D], &[]);
-    let changes = line.replace(1, letter(U)).unwrap();
+    let old = line.clone();
+    line.replace(1, letter(U)).unwrap();
+    let changes = line.changes_from(&old);
     assert_eq!(actions(&line), [Action::Isol, Action::None, Action::Isol]);
     assert_eq!(changes.iter().map(|change| change.place).collect::<Vec<_>>(), [0, 1, 2]);
     assert_eq!((changes[2].from, changes[2].to), (Action::Fina, Action::Isol));

@@ -52,14 +52,20 @@ pub fn refused(
 {
     let even = line_even
         & ((pre_types.len() == pre_cats.len()) & (post_types.len() == post_cats.len()));
+    if !even {
+        return Verdict::Refused(Refusal::Uneven);
+    }
     let short = (types.len() <= refusals::LINE_LIMIT)
         & ((pre_types.len() <= CONTEXT_LIMIT) & (post_types.len() <= CONTEXT_LIMIT));
+    if !short {
+        return Verdict::Refused(Refusal::TooLong);
+    }
     let known = known_letters(types, cats)
         & (known_letters(pre_types, pre_cats) & known_letters(post_types, post_cats));
-    let uneven = refusals::unless(even, Refusal::Uneven);
-    let long = refusals::unless(short, Refusal::TooLong);
-    let strange = refusals::unless(known, Refusal::OutOfRange);
-    uneven.sooner(long.sooner(strange))
+    if !known {
+        return Verdict::Refused(Refusal::OutOfRange);
+    }
+    Verdict::Accepted
 }
 
 // In a Mongolian line selectors take the action of the record before them.

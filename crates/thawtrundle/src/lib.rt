@@ -315,12 +315,13 @@ pub extern "C" fn tt_fallback_plan(
         mark_ligatures,
         area,
     );
+    let verdict = plan.verdict;
     let own_masks = plan.masks;
     let own_lengths = plan.lengths;
     *count = plan.count;
     *entry_masks = own_masks;
     *entry_lengths = own_lengths;
-    plan.verdict.number()
+    verdict.number()
 }
 
 // Whether the fallback is used (`fallback::do_fallback`).

@@ -1,0 +1,3 @@
+-- Laws of `thawtrundle`.
+-- Assumes nothing.
+mod ToldLaws

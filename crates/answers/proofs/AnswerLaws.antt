@@ -23,7 +23,7 @@ use Rattle.refusals.specs.Left.{After}
 use Rattle.lines.specs.Held.{Setting, Line, lettersOf, settingOf, lineOf}
 use Rattle.lines.specs.Joined.{knownLetters, refusal, joinedLine, joinAfter}
 use Rattle.printing.specs.Printed.{printed, unreadableText, refusedText}
-use Rattle.printing.specs.Writing.{Written, Wrote, filled}
+use Rattle.printing.specs.Writing.{Written, filled}
 use Rattle.answers.specs.Output.{limit, lineText, entryText, output, room, linesText, answerText, Even}
 
 -- No contexts, no feature masks, not Mongolian.

@@ -13,7 +13,6 @@ use lib.ListN.{length, getD, take, drop, length-map}
 use lib.Seq.{take-at, drop-at, getD-at}
 use Rattle.laws.proofs.TestLaws.{neither}
 use Rattle.refusals.specs.Columns.{rising}
-use Rattle.words.specs.Words.{bytes}
 use Rattle.layouts.specs.declared.Kind.{Kind}
 use Rattle.layouts.specs.declared.Kind.the-variants.{Single, Ligature}
 use Rattle.layouts.specs.Tables.{Rule, first}

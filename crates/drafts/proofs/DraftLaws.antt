@@ -1,9 +1,9 @@
 -- Drafts: one without entries (`begun-drafted`); a lookup that is written behind the others is an entry more (`written-part`, `pushed`); nothing added (`none-added`); where the bytes of a draft end (`drafted-inside`). How far a plan has come, which is made of several lookups (`reached-begin`, `reached-more`), and what is asked of the next (`reached-fit`); the entry of rules that are listed in two columns (`rules-added`).
 -- Assumes nothing.
 use mathlib.Core.Path.{_≡_, refl, sym, ap, _∙_}
-use mathlib.Core.Bool.{Bool, true, cond, or-false}
+use mathlib.Core.Bool.{true, cond, or-false}
 use mathlib.Core.List.{List, [], _∷_, _++_, append-assoc, append-nil}
-use Prim.Native.Nat.{ℕ, suc, _+_, _*_, _-_, _<_, _≤_}
+use Prim.Native.Nat.{ℕ, _+_, _*_, _-_, _<_, _≤_}
 use native.Mathlib.Omega.{arith}
 use borrow.Author.Tests.{ne-eqb}
 use lib.Dec.{eqb}

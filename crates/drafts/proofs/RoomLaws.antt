@@ -15,10 +15,9 @@ use Rattle.layouts.specs.Lookups.{Lookup, lookupOf, width, known, rules, wordsO
 use Rattle.layouts.specs.Written.{writeRefusal}
 use Rattle.layouts.proofs.FitLaws.{fits-lent}
 use Rattle.layouts.proofs.SetLaws.{wide-rules}
-use Rattle.layouts.proofs.SizeLaws.{size-single, size-ligature}
+use Rattle.layouts.proofs.SizeLaws.{length-rules, size-single, size-ligature}
 use Rattle.layouts.proofs.LimitLaws.{single-fits, regular-rules, sets-few, longest-few, last-few, ligature-within}
 use Rattle.layouts.proofs.WrittenLaws.{two-or-three, none-given}
-use Rattle.ligatures.proofs.PlaceLaws.{length-rules}
 use Rattle.drafts.specs.declared.Draft.{Draft}
 use Rattle.drafts.specs.Entries.{ruleLimit, most}
 use Rattle.drafts.specs.Drafted.{Fit}

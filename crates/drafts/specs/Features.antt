@@ -1,4 +1,4 @@
--- The masks lent, in the order of document 01: `initOf`, `mediOf`, `finaOf`, `isolOf`, `rligOf`; and the flag of a lookup that passes over marks: `ignoreMarks`.
+-- Of the masks lent (document 01's order: init, medi, fina, isol, rlig) those that are asked for by name: `initOf`, `mediOf`, `finaOf`, `rligOf`; and the flag of a lookup that passes over marks: `ignoreMarks`.
 -- Assumes nothing.
 use mathlib.Core.List.{List}
 use Prim.Native.Nat.{ℕ}
@@ -12,9 +12,6 @@ mediOf masks = getD masks 1 0
 
 abbrev pub finaOf : List ℕ → ℕ
 finaOf masks = getD masks 2 0
-
-abbrev pub isolOf : List ℕ → ℕ
-isolOf masks = getD masks 3 0
 
 abbrev pub rligOf : List ℕ → ℕ
 rligOf masks = getD masks 4 0

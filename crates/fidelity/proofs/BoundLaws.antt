@@ -14,16 +14,13 @@ use Rattle.laws.proofs.TestLaws.{and-true, same-truth}
 use Rattle.layouts.specs.Tables.{Rule, sets, ligature}
 use Rattle.layouts.specs.Lookups.{fits}
 use Rattle.layouts.specs.Extents.{longest, lastFrom}
+use Rattle.layouts.proofs.FitLaws.{ltb-same}
 use Rattle.layouts.proofs.SetLaws.{Grouped, grouped}
 use Rattle.layouts.proofs.SizeLaws.{rulesIn, rules-in-sets}
 use Rattle.layouts.proofs.LimitLaws.{Regular, ligature-fits}
 use Rattle.fidelity.specs.Writing.{mostInSet, mostAlone}
 
--- a test of one number is that of another that is below its limit where the first is
-same-limit : (a m b k : ℕ) → (a < m → b < k) → (b < k → a < m) → ltb a m ≡ ltb b k
-same-limit a m b k on back =
-    same-truth (ltb a m) (ltb b k) (λ e. lt-ltb b k (on (ltb-true a m e))) (λ e. lt-ltb a m (back (ltb-true b k e)))
-
+-- a test of one number is that of another that is at most its limit where the first is below its own
 most-of : (a m c k : ℕ) → (a < m → c ≤ k) → (c ≤ k → a < m) → ltb a m ≡ leb c k
 most-of a m c k on back = same-truth (ltb a m) (leb c k) (λ e. le-leb c k (on (ltb-true a m e))) (λ e. lt-ltb a m (back (leb-true c k e)))
 
@@ -93,7 +90,7 @@ module _ (flags n : ℕ) (rs : List Rule) (low : 0 < n) (f : flags < 65536) (g :
           last [] k e = lt-ltb (8 + 6 * 0 + 0 * size) 65536 (omega arith) ∙ sym (lt-ltb (0 * (10 + 2 * n)) (65532 + 2 * n) (omega arith))
           last (g ∷ gs) k e =
               rw (lone-last n 0 0 g gs k e, zero-add (length gs))
-              (same-limit (8 + 6 * suc (length gs) + length gs * size) 65536 (suc (length gs) * (10 + 2 * n)) (65532 + 2 * n) (on (length gs)) (back (length gs)))
+              (ltb-same (8 + 6 * suc (length gs) + length gs * size) 65536 (suc (length gs) * (10 + 2 * n)) (65532 + 2 * n) (on (length gs)) (back (length gs)))
 
 -- ---- the limits
 pub one-set-most : (n c : ℕ) → (n ≡ 2) ⊎ (n ≡ 3) → ltb (c * (4 + 2 * n)) (65536 + 2 * n) ≡ leb c (mostInSet n)

@@ -18,6 +18,9 @@ use Rattle.fidelity.proofs.StandLaws.{Stands, stands-head, stands-appen
 moved : (b ws : List ℕ) (p q : ℕ) → p ≡ q → Stands b p ws → Stands b q ws
 moved b ws p q e s = rw (← e) s
 
+place : (q f s : ℕ) → q + f + s ≡ q + (f + s)
+place q f s = omega arith
+
 -- ---- a single lookup
 pub pairs-followed : (b gs ss : List ℕ) (g s : ℕ) → length gs ≡ length ss → Stands b g gs → Stands b s ss → pairsFrom b g s (length ss) ≡ rules 1 gs ss
 unfolding pairsFrom rules
@@ -63,9 +66,6 @@ module _ (b : List ℕ) (n : ℕ) (low : 0 < n) where
       let found : ruleAt b lead (q + wordAt b o) ≡ r = rw (h .0, ← a .0) (rule-followed r (q + f) (w .0) (k .0)) in
       ap₂ (λ (here : Rule) (others : List Rule). here ∷ others) found
       (rules-followed lead q set (o + 2) (f + size) (w .1) (a .1) (h .1) (moved b _ _ _ (place q f size) (k .1)))
-    where
-      place : (q f s : ℕ) → q + f + s ≡ q + (f + s)
-      place q f s = omega arith
 
   set-followed : (q : ℕ) (set : List Rule) → Wide n set → Alike (leader set) set → Stands b q (setWords n set) → setAt b (leader set) q ≡ set
   unfolding setWords
@@ -94,9 +94,6 @@ module _ (b : List ℕ) (n : ℕ) (low : 0 < n) where
       let found : setAt b (wordAt b g) (t + wordAt b o) ≡ set = rw (h .0, i .0) (set-followed (t + f) set (w .1) (a .1) (k .0)) in
       ap₂ (λ (here others : List Rule). here ++ others) found
       (sets-followed t gs (g + 2) (o + 2) (f + size) (w .2) (a .2) (h .1) (i .1) (moved b _ _ _ (place t f size) (k .1)))
-    where
-      place : (q f s : ℕ) → q + f + s ≡ q + (f + s)
-      place q f s = omega arith
 
 -- ---- a lookup
 module _ (b : List ℕ) (flags : ℕ) where

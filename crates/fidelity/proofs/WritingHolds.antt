@@ -15,15 +15,14 @@ use Rattle.words.proofs.WordLaws.{length-bytes}
 use Rattle.layouts.specs.declared.Kind.{Kind}
 use Rattle.layouts.specs.declared.Kind.the-variants.{Single, Ligature}
 use Rattle.layouts.specs.declared.Written.{Written}
-use Rattle.layouts.specs.Tables.{Rule, first, leader, sets, ligature}
+use Rattle.layouts.specs.Tables.{Rule, first, leader, sets}
 use Rattle.layouts.specs.Lookups.{Lookup, lookupOf, width, known, rules, laidOut, wordsOf, firstsIn, fits}
 use Rattle.layouts.specs.Written.{Outcome, outcome, rowsOf, writeRefusal, numberSaid, lengthSaid, Writing}
 use Rattle.layouts.proofs.FitLaws.{fits-lent}
 use Rattle.layouts.proofs.SetLaws.{wide-rules}
-use Rattle.layouts.proofs.SizeLaws.{size-single, size-ligature}
+use Rattle.layouts.proofs.SizeLaws.{length-rules, size-single, size-ligature}
 use Rattle.layouts.proofs.LimitLaws.{Regular, regular-rules, single-fits}
 use Rattle.layouts.proofs.WrittenLaws.{one-written, Allowed, allowed, offset-given, room-given, none-given, two-or-three}
-use Rattle.scanning.proofs.GroupLaws.{ligatures-rules}
 use Rattle.reading.specs.Read.{typeOf}
 use Rattle.demands.specs.Stretching.{Past}
 use Rattle.fidelity.specs.Followed.{coverageAt, followed}
@@ -88,10 +87,6 @@ past-the-answer l area r left x = go (numberSaid r) refl
 low : (n : ℕ) → (n ≡ 2) ⊎ (n ≡ 3) → 0 < n
 low n (inl e) = omega arith
 low n (inr e) = omega arith
-
-length-rules : (n : ℕ) (components ligatures : List ℕ) → length (rules n components ligatures) ≡ length ligatures
-length-rules n components ligatures =
-    sym (length-map (rules n components ligatures) (λ (r : Rule). r .ligature)) ∙ ap length (ligatures-rules n components ligatures)
 
 size-of :
     (kind : Kind) (flags : ℕ) (glyphs substitutes : List ℕ) → length glyphs ≡ length substitutes * width kind → known kind ≡ true

@@ -38,10 +38,6 @@ pub sets-next :
 unfolding setsAt wordsAt
 sets-next n b lp p m = let one : m + 1 ≡ suc m = omega arith in rw one
 
-pub end-next : (n : ℕ) (b : List ℕ) (lp p m : ℕ) → endAt n (wordsAt b lp (m + 1)) b p ≡ endAt n (wordsAt b (lp + 2) m) b (p + setSize n (wordAt b p))
-unfolding endAt wordsAt
-end-next n b lp p m = let one : m + 1 ≡ suc m = omega arith in rw one
-
 -- each set takes two bytes and its rules
 pub end-is : (n : ℕ) (leads b : List ℕ) (p : ℕ) → endAt n leads b p ≡ p + 2 * length leads + length (setsAt n leads b p) * (4 + 2 * n)
 unfolding endAt setsAt

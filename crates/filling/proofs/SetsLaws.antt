@@ -12,8 +12,9 @@ use Rattle.words.proofs.WordLaws.{length-words}
 use Rattle.layouts.specs.Tables.{Rule}
 use Rattle.scanning.specs.Grammar.{setSize, flat, ligaturesOf}
 use Rattle.grouping.specs.Grouped.{rulesAt, setsAt, endAt, leadsAt}
+use Rattle.grouping.proofs.GoingLaws.{end-next}
 use Rattle.filling.specs.Filled.{Filled}
-use Rattle.filling.proofs.RuleLaws.{flat-append, length-rules, length-flat, sets-next, end-next, end-is}
+use Rattle.filling.proofs.RuleLaws.{flat-append, length-rules, length-flat, sets-next, end-is}
 
 -- before a set at byte p, with it and others to come: their rules, written over what is there, make what all of them were to make
 pub record Filling (n s : ℕ) (b components ligatures : List ℕ) (left leads p x i : ℕ) (now here : List ℕ) : Type 0 where

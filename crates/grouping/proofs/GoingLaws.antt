@@ -43,7 +43,7 @@ size-fits n c h l = omega (arith, mul-le-mul (most c l) (ten n h))
     ten n h = omega arith
 
 -- the end, past the next set
-end-next : (n : ℕ) (b : List ℕ) (lp p m : ℕ) → endAt n (wordsAt b lp (m + 1)) b p ≡ endAt n (wordsAt b (lp + 2) m) b (p + setSize n (wordAt b p))
+pub end-next : (n : ℕ) (b : List ℕ) (lp p m : ℕ) → endAt n (wordsAt b lp (m + 1)) b p ≡ endAt n (wordsAt b (lp + 2) m) b (p + setSize n (wordAt b p))
 unfolding endAt wordsAt
 end-next n b lp p m = let one : m + 1 ≡ suc m = omega arith in rw one
 

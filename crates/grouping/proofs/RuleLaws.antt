@@ -7,6 +7,7 @@ use native.Mathlib.Nat.{mul-le-mul-left}
 use native.Mathlib.Omega.{arith}
 use lib.ListN.{length, getD}
 use Rattle.words.specs.Words.{wordAt, wordsAt}
+use Rattle.words.proofs.WordLaws.{one-less}
 use Rattle.layouts.specs.Tables.{Rule, evenly}
 use Rattle.scanning.specs.Scans.{Rest, exactly, several}
 use Rattle.scanning.specs.Grammar.{ruled, grouped}
@@ -19,10 +20,7 @@ use Rattle.grouping.specs.Grouped.{ruleAt, rulesAt, oneRule}
 
 pub evenly-next : (c o by : ℕ) → 0 < c → evenly c o by ≡ o ∷ evenly (c - 1) (o + by) by
 evenly-next zero o by h = absurd (omega arith)
-evenly-next (suc c) o by h = ap (λ (m : ℕ). o ∷ evenly m (o + by) by) (less c)
-  where
-    less : (c : ℕ) → c ≡ suc c - 1
-    less c = omega arith
+evenly-next (suc c) o by h = ap (λ (m : ℕ). o ∷ evenly m (o + by) by) (one-less c)
 
 -- the steps to come, the next among them
 pub more : (left by : ℕ) → 0 < left → left * by ≡ by + (left - 1) * by

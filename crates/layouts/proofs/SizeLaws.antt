@@ -1,5 +1,5 @@
 -- How many bytes a lookup takes: a single one by the number of its glyphs (`size-single`), a ligature lookup by the numbers of its sets and of its rules, for any number of components (`size-ligature`).
--- How many rules sets have (`rulesIn`), all of them (`rules-in-sets`).
+-- How many rules two columns hold (`length-rules`), and sets (`rulesIn`), all of them (`rules-in-sets`); as many offsets as blocks (`length-offsets`).
 -- Assumes nothing.
 use mathlib.Core.Path.{_≡_, refl, ap, _∙_}
 use mathlib.Core.Bool.{Bool, true, false, cond}
@@ -7,8 +7,9 @@ use mathlib.Core.List.{List, [], _∷_, _++_, map}
 use Prim.Native.Nat.{ℕ, suc, _+_, _*_, _<_}
 use native.Mathlib.Omega.{arith}
 use lib.Dec.{eqb}
-use lib.ListN.{length, length-append, length-map}
+use lib.ListN.{length, drop, length-append, length-map}
 use Rattle.layouts.specs.Tables.{Rule, first, leader, onto, sets, offsets, joined, coverage, single, setWords, ligatureOf, ligature}
+use Rattle.layouts.specs.Lookups.{rules}
 use Rattle.layouts.proofs.SetLaws.{Wide, Grouped, grouped, set-size}
 
 -- "18 + 4n bytes"
@@ -16,7 +17,12 @@ pub size-single : (flags : ℕ) (gs ss : List ℕ) → length gs ≡ length ss �
 unfolding single
 size-single flags gs ss e = omega (arith, length-append ss (coverage gs))
 
--- ---- rules in sets
+-- ---- rules of two columns, and in sets
+pub length-rules : (n : ℕ) (components ligatures : List ℕ) → length (rules n components ligatures) ≡ length ligatures
+unfolding rules
+length-rules n components [] = refl
+length-rules n components (l ∷ ligatures) = ap suc (length-rules n (drop n components) ligatures)
+
 abbrev pub rulesIn : List (List Rule) → ℕ
 rulesIn [] = 0
 rulesIn (g ∷ gs) = length g + rulesIn gs

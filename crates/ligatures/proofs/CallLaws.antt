@@ -17,11 +17,10 @@ use Rattle.layouts.specs.Lookups.{lookupOf, known, rules, fits}
 use Rattle.layouts.specs.Extents.{longest, lastFrom}
 use Rattle.layouts.specs.Written.{Writing}
 use Rattle.layouts.proofs.FitLaws.{fits-lent}
-use Rattle.layouts.proofs.SizeLaws.{size-ligature}
+use Rattle.layouts.proofs.SizeLaws.{length-rules, size-ligature}
 use Rattle.layouts.proofs.LimitLaws.{Regular, regular-rules, sets-few, longest-few, last-few, ligature-within, offset-over, set-over, too-many}
 use Rattle.layouts.proofs.WrittenLaws.{Allowed, offset-given, room-given, written-refused}
 use Rattle.ligatures.specs.Places.{Shape}
-use Rattle.ligatures.proofs.PlaceLaws.{length-rules}
 
 -- ---- "component number other than 2 or 3"
 in-range : {n : ℕ} → 2 ≤ n → n ≤ 3 → known (Ligature n) ≡ true

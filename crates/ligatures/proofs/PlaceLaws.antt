@@ -1,4 +1,4 @@
--- The rules that two columns hold, by their places: their number (`length-rules`), the next one (`rules-next`, `part-next`, `part-none`), how many a part has (`length-part`), where a rule's components stand (`inside`, `first-at`, `rule-words`, `others-one`, `others-two`);
+-- The rules that two columns hold, by their places: the next one (`rules-next`, `part-next`, `part-none`), how many a part has (`length-part`), where a rule's components stand (`inside`, `first-at`, `rule-words`, `others-one`, `others-two`);
 -- the walk to the end of a set (`runFrom`, `run-on`, `run-ends`, `run-over`, `set-found`); what begins a part that is a set (`leader-at`), and that no set is left (`sets-none`); a rule written (`one-written`, `two-written`, `rule-written`).
 -- Assumes nothing.
 use mathlib.Core.Path.{_≡_, refl, sym, ap, _∙_}
@@ -10,16 +10,13 @@ use native.Mathlib.Omega.{arith}
 use lib.ListN.{length, getD, take, drop, drop-of-length-le, length-take, length-drop}
 use lib.Seq.{drop-drop, drop-cons, getD-take, getD-drop, take-nil}
 use Rattle.words.specs.Words.{Wrote}
+use Rattle.words.proofs.WordLaws.{one-less}
 use Rattle.words.proofs.WroteLaws.{then, frame, step}
 use Rattle.layouts.specs.Tables.{first, leader, sets, ruleWords}
 use Rattle.layouts.specs.Lookups.{rules}
 use Rattle.layouts.proofs.SetLaws.{run, run-more, run-stop, sets-run}
+use Rattle.layouts.proofs.SizeLaws.{length-rules}
 use Rattle.ligatures.specs.Places.{Shape, ruleAt, part, setsFrom, SetAt}
-
-pub length-rules : (n : ℕ) (cs ls : List ℕ) → length (rules n cs ls) ≡ length ls
-unfolding rules
-length-rules n cs [] = refl
-length-rules n cs (l ∷ ls) = ap suc (length-rules n (drop n cs) ls)
 
 pub rules-next : (n : ℕ) (cs ls : List ℕ) (i : ℕ) → i < length ls → drop i (rules n cs ls) ≡ ruleAt n cs ls i ∷ drop (suc i) (rules n cs ls)
 unfolding rules
@@ -57,10 +54,7 @@ behind-first : (n : ℕ) (l : List ℕ) → drop 1 (take n l) ≡ take (n - 1) (
 behind-first zero [] = refl
 behind-first zero (x ∷ l) = refl
 behind-first (suc n) [] = sym (take-nil (suc n - 1))
-behind-first (suc n) (x ∷ l) = ap (λ (k : ℕ). take k l) (less n)
-  where
-    less : (n : ℕ) → n ≡ suc n - 1
-    less n = omega arith
+behind-first (suc n) (x ∷ l) = ap (λ (k : ℕ). take k l) (one-less n)
 
 -- those behind the first are the column's part from the second place on
 pub rule-words : (n : ℕ) (cs ls : List ℕ) (k : ℕ) → ruleWords n (ruleAt n cs ls k) ≡ getD ls k 0 ∷ n ∷ take (n - 1) (drop (k * n + 1) cs)

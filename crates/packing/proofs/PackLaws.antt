@@ -2,25 +2,20 @@
 -- Of rules of n components: their columns are the rules again (`rules-flat`), and how long the column of components is (`length-flat`); what a number is unpacked to are such rules (`length-digits`, `wide-unpacked`).
 -- Assumes nothing.
 use mathlib.Core.Path.{_≡_, refl, sym, ap, ap₂, _∙_}
-use mathlib.Core.Bool.{true, and-eq-true-iff}
+use mathlib.Core.Bool.{true}
 use mathlib.Core.List.{List, [], _∷_, map}
 use Prim.Native.Nat.{ℕ, zero, suc, _+_, _*_, _/_, _%_, _≤_, _<_}
 use native.Mathlib.Omega.{arith}
 use native.Mathlib.Nat.{zero-mul}
-use borrow.Author.Tests.{ltb-true}
-use lib.Dec.{ltb}
 use lib.ListN.{length, getD, length-append}
 use lib.Seq.{take-at, drop-at}
 use Rattle.layouts.specs.Tables.{Rule, first}
 use Rattle.layouts.specs.Lookups.{rules, flat, ligatures, fits}
+use Rattle.layouts.proofs.FitLaws.{fits-head}
 use Rattle.layouts.proofs.SetLaws.{Wide}
 use Rattle.packing.specs.Packed.{packed, pack, digits, above, unpacked}
 
 -- ---- a rule as one number
-fits-first : (x : ℕ) (l : List ℕ) → fits (x ∷ l) ≡ true → (x < 65536) × (fits l ≡ true)
-unfolding fits
-fits-first x l e = let b = and-eq-true-iff (ltb x 65536) (fits l) .0 e in (ltb-true x 65536 (b .0), b .1)
-
 -- the lowest component, and the others
 lowest : (c p : ℕ) → c < 65536 → (c + 65536 * p) % 65536 ≡ c
 lowest c p h = omega arith
@@ -34,7 +29,7 @@ digits-packed zero [] l e f = refl
 digits-packed zero (c ∷ cs) l e f = absurd (omega arith)
 digits-packed (suc n) [] l e f = absurd (omega arith)
 digits-packed (suc n) (c ∷ cs) l e f =
-    let b = fits-first c cs f in
+    let b = fits-head c cs f in
     rw (lowest c (packed cs l) (b .0), others c (packed cs l) (b .0)) (ap (λ (x : List ℕ). c ∷ x) (digits-packed n cs l (omega arith) (b .1)))
 
 above-packed : (n : ℕ) (cs : List ℕ) (l : ℕ) → length cs ≡ n → fits cs ≡ true → above n (packed cs l) ≡ l
@@ -43,38 +38,38 @@ above-packed zero [] l e f = refl
 above-packed zero (c ∷ cs) l e f = absurd (omega arith)
 above-packed (suc n) [] l e f = absurd (omega arith)
 above-packed (suc n) (c ∷ cs) l e f =
-    let b = fits-first c cs f in
+    let b = fits-head c cs f in
     rw (others c (packed cs l) (b .0)) (above-packed n cs l (omega arith) (b .1))
 
 pub unpacked-pack : (n : ℕ) (r : Rule) → length (r .components) ≡ n → fits (r .ligature ∷ r .components) ≡ true → unpacked n (pack r) ≡ r
 unpacked-pack n r e f =
-    let b = fits-first (r .ligature) (r .components) f in
+    let b = fits-head (r .ligature) (r .components) f in
     let small : r .ligature % 65536 ≡ r .ligature = omega (arith, b .0) in
     ap₂ (λ (cs : List ℕ) (l : ℕ). record { components = cs; ligature = l }) (digits-packed n (r .components) (r .ligature) e (b .1))
     (ap (λ (x : ℕ). x % 65536) (above-packed n (r .components) (r .ligature) e (b .1)) ∙ small)
 
 pub pack-bound : (cs : List ℕ) (l : ℕ) → fits (l ∷ cs) ≡ true → length cs ≤ 3 → packed cs l < 18446744073709551616
-pack-bound cs l f = go cs (fits-first l cs f .1)
+pack-bound cs l f = go cs (fits-head l cs f .1)
   where
     small : l < 65536
-    small = fits-first l cs f .0
+    small = fits-head l cs f .0
 
     go : (cs : List ℕ) → fits cs ≡ true → length cs ≤ 3 → packed cs l < 18446744073709551616
     go [] g h = omega (arith, small)
-    go (a ∷ []) g h = omega (arith, small, fits-first a [] g .0)
-    go (a ∷ b ∷ []) g h = let p = fits-first a (b ∷ []) g in omega (arith, small, p .0, fits-first b [] (p .1) .0)
+    go (a ∷ []) g h = omega (arith, small, fits-head a [] g .0)
+    go (a ∷ b ∷ []) g h = let p = fits-head a (b ∷ []) g in omega (arith, small, p .0, fits-head b [] (p .1) .0)
     go (a ∷ b ∷ c ∷ []) g h =
-        let p = fits-first a (b ∷ c ∷ []) g in
-        let q = fits-first b (c ∷ []) (p .1) in
-        omega (arith, small, p .0, q .0, fits-first c [] (q .1) .0)
+        let p = fits-head a (b ∷ c ∷ []) g in
+        let q = fits-head b (c ∷ []) (p .1) in
+        omega (arith, small, p .0, q .0, fits-head c [] (q .1) .0)
     go (a ∷ b ∷ c ∷ d ∷ cs) g h = absurd (omega arith)
 
 pub low-pack : (r : Rule) → 1 ≤ length (r .components) → fits (r .ligature ∷ r .components) ≡ true → pack r % 65536 ≡ first r
-low-pack r h f = go (r .components) h (fits-first (r .ligature) (r .components) f .1)
+low-pack r h f = go (r .components) h (fits-head (r .ligature) (r .components) f .1)
   where
     go : (cs : List ℕ) → 1 ≤ length cs → fits cs ≡ true → packed cs (r .ligature) % 65536 ≡ getD cs 0 0
     go [] h f = absurd (omega arith)
-    go (c ∷ cs) h f = lowest c (packed cs (r .ligature)) (fits-first c cs f .0)
+    go (c ∷ cs) h f = lowest c (packed cs (r .ligature)) (fits-head c cs f .0)
 
 -- ---- rules of n components
 pub length-flat : (n : ℕ) (rs : List Rule) → Wide n rs → length (flat rs) ≡ length rs * n

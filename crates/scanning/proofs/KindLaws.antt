@@ -10,10 +10,10 @@ use lib.Seq.{drop-at, getD-append-add}
 use Rattle.layouts.specs.Tables.{Rule, first, leader, sets, offsets, joined, ruleWords, setWords, single, ligatureOf, ligature}
 use Rattle.layouts.specs.Lookups.{Lookup, rules}
 use Rattle.layouts.proofs.SetLaws.{run, sets-run}
+use Rattle.layouts.proofs.SizeLaws.{length-offsets}
 use Rattle.scanning.specs.Scans.{Scan, fine, wrong, short, further}
 use Rattle.scanning.specs.Grammar.{singleScan, ligatureScan}
 use Rattle.scanning.proofs.TakeLaws.{wrong-fine, short-fine}
-use Rattle.scanning.proofs.PlaceLaws.{length-offsets}
 use Rattle.scanning.proofs.SingleLaws.{single-back}
 use Rattle.scanning.proofs.LigatureLaws.{ligature-back}
 

@@ -14,13 +14,14 @@ use Rattle.layouts.specs.Tables.{Rule, first, leader, sets, offsets, joined, ru
 use Rattle.layouts.specs.Lookups.{Lookup, lookupOf, rules, fits}
 use Rattle.layouts.proofs.FitLaws.{fits-parts, fits-head}
 use Rattle.layouts.proofs.SetLaws.{wide-rules, Grouped, grouped, set-size, set-fits}
+use Rattle.layouts.proofs.SizeLaws.{length-offsets}
 use Rattle.scanning.specs.Scans.{Rest, fine, any, exactly, end}
 use Rattle.scanning.specs.Grammar.{headed, counted, covered, setSize, mostRules, mostSets, isSize, starts, flat, ligaturesOf, ligatureScan}
 use Rattle.scanning.proofs.TakeLaws.{Takes, two-takes, behind-takes, passed, ends, ended}
 use Rattle.scanning.proofs.HeadLaws.{headed-takes, counted-takes, covered-takes}
 use Rattle.scanning.proofs.GroupLaws.{Led, led-sets, flatten-sets, sets-flatten, leaders-rise, firsts-rise, wide-flatten, flat-rules, ligatures-rules, rules-flat, length-flat}
 use Rattle.scanning.proofs.SizeLaws.{in-most-rules, in-most-sets, size-on}
-use Rattle.scanning.proofs.PlaceLaws.{length-offsets, spaced, Spaced, spaced-apart, starts-takes, grouping, settled-grouping, Sound, Placed, grouping-takes}
+use Rattle.scanning.proofs.PlaceLaws.{spaced, Spaced, spaced-apart, starts-takes, grouping, settled-grouping, Sound, Placed, grouping-takes}
 
 -- flags, how many sets, where they begin, their first glyphs, the sets
 abbrev Parts : Type 0

@@ -1,4 +1,4 @@
--- Where the sets of a ligature lookup begin, and the sets: a scan takes exactly the offsets that leave room for sets (`spaced`, `Apart`, `Spaced`, `spaced-apart`, `starts-takes`) and exactly the sets that begin there (`Sound`, `Placed`, `grouping`, `settled-grouping`, `grouping-takes`); as many offsets as blocks (`length-offsets`).
+-- Where the sets of a ligature lookup begin, and the sets: a scan takes exactly the offsets that leave room for sets (`spaced`, `Apart`, `Spaced`, `spaced-apart`, `starts-takes`) and exactly the sets that begin there (`Sound`, `Placed`, `grouping`, `settled-grouping`, `grouping-takes`).
 -- Assumes nothing.
 use mathlib.Core.Path.{_≡_, refl, sym, ap, ap₂, _∙_}
 use mathlib.Core.Bool.{Bool, true, _&&_}
@@ -100,12 +100,6 @@ module _ (n : ℕ) where
     pub sound : Sound groups
     pub heads : leads ≡ map leader groups
     pub begins : os ≡ offsets (getD os 0 0) (map (setWords n) groups)
-
--- as many offsets as blocks
-pub length-offsets : (o : ℕ) (blocks : List (List ℕ)) → length (offsets o blocks) ≡ length blocks
-unfolding offsets
-length-offsets o [] = refl
-length-offsets o (block ∷ blocks) = ap suc (length-offsets (o + 2 * length block) blocks)
 
 -- the first of some offsets
 offsets-first : (o p : ℕ) (os : List ℕ) (blocks : List (List ℕ)) → p ∷ os ≡ offsets o blocks → p ≡ o

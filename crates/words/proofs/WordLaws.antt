@@ -1,4 +1,4 @@
--- Words and their bytes: how many (`length-bytes`, `length-words`); words one behind the other (`bytes-append`, `words-append`); the next word (`words-next`, `words-none`); bytes read give the words that were written (`read-back`), and words read give back the bytes (`bytes-read`);
+-- Words and their bytes: how many (`length-bytes`, `length-words`); words one behind the other (`bytes-append`, `words-append`); the next word (`one-less`, `words-next`, `words-none`); bytes read give the words that were written (`read-back`), and words read give back the bytes (`bytes-read`);
 -- a word of bytes fits (`word-fits`, `words-fit`); a column filled (`paste-front`, `fill-last`).
 -- Assumes nothing.
 use mathlib.Core.Path.{_≡_, refl, sym, ap, ap₂, _∙_}
@@ -37,13 +37,14 @@ words-append b i (suc m) n =
     on i m = omega arith
 
 -- ---- the next of n words
+-- what is left behind the first of them
+pub one-less : (n : ℕ) → n ≡ suc n - 1
+one-less n = omega arith
+
 pub words-next : (b : List ℕ) (i n : ℕ) → 0 < n → wordsAt b i n ≡ wordAt b i ∷ wordsAt b (i + 2) (n - 1)
 unfolding wordsAt
 words-next b i zero h = absurd (omega arith)
-words-next b i (suc n) h = ap (λ (k : ℕ). wordAt b i ∷ wordsAt b (i + 2) k) (less n)
-  where
-    less : (n : ℕ) → n ≡ suc n - 1
-    less n = omega arith
+words-next b i (suc n) h = ap (λ (k : ℕ). wordAt b i ∷ wordsAt b (i + 2) k) (one-less n)
 
 pub words-none : (b : List ℕ) (i n : ℕ) → n ≡ 0 → wordsAt b i n ≡ []
 unfolding wordsAt

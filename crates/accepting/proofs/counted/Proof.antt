@@ -10,10 +10,6 @@ use Rattle.accepting.proofs.SeriesLaws.{counted-short, counted-odd, cou
 use borrow.Author.Needs.{needs}
 use Rattle.accepting.proofs.counted.Statement.{statement}
 use Rattle.accepting.proofs.counted.Tie as tie
-use Rattle.accepting.proofs.counted.Reads as reads
-use Rattle.accepting.proofs.counted.Lts as lts
-use Rattle.accepting.proofs.exactly.Reads as exactly-reads
-use Rattle.words.proofs.u16_at.Reads as u16-at-reads
 
 sub-if1 : tie.Need-sub-if1
 sub-if1 c = omega (arith, c .before .pre .0)

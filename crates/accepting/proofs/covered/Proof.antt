@@ -6,10 +6,6 @@ use Rattle.accepting.proofs.SeriesLaws.{covered-stops, covered-taken}
 use borrow.Author.Needs.{needs}
 use Rattle.accepting.proofs.covered.Statement.{statement}
 use Rattle.accepting.proofs.covered.Tie as tie
-use Rattle.accepting.proofs.covered.Reads as reads
-use Rattle.accepting.proofs.covered.Lts as lts
-use Rattle.accepting.proofs.exactly.Reads as exactly-reads
-use Rattle.accepting.proofs.rise.Reads as rise-reads
 
 cast-t8 : tie.Need-cast-t8
 cast-t8 c = omega (arith, c .before .pre .2)

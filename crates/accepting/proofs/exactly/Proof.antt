@@ -11,9 +11,6 @@ use Rattle.accepting.proofs.TookLaws.{Leads}
 use Rattle.accepting.proofs.PieceLaws.{these-short, these-wrong, these-more, these-none}
 use Rattle.accepting.proofs.exactly.Statement.{statement}
 use Rattle.accepting.proofs.exactly.Tie as tie
-use Rattle.accepting.proofs.exactly.Reads as reads
-use Rattle.accepting.proofs.exactly.Lts as lts
-use Rattle.words.proofs.u16_at.Reads as u16-at-reads
 
 abbrev Inv-loop : tie.InvT-loop
 Inv-loop words bytes at i₀ p₀ i p = (i ≤ length words) × (p ≤ length bytes) × (p ≡ at + 2 * i) × Leads (these words) tt (at + 2 * length words) bytes at (these (drop i words)) tt p

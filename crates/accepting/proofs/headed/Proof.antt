@@ -6,10 +6,6 @@ use Rattle.accepting.proofs.SeriesLaws.{headed-stops, headed-flags, hea
 use borrow.Author.Needs.{needs}
 use Rattle.accepting.proofs.headed.Statement.{statement}
 use Rattle.accepting.proofs.headed.Tie as tie
-use Rattle.accepting.proofs.headed.Reads as reads
-use Rattle.accepting.proofs.headed.Lts as lts
-use Rattle.accepting.proofs.exactly.Reads as exactly-reads
-use Rattle.accepting.proofs.several.Reads as several-reads
 
 slice-aggregate-exactly : tie.Need-slice-aggregate-exactly
 slice-aggregate-exactly c = search needs

@@ -15,9 +15,6 @@ use Rattle.accepting.proofs.TookLaws.{Leads}
 use Rattle.accepting.proofs.PieceLaws.{scaled, next-sum, rise-test, rise-short, rise-wrong, rise-more, rise-none}
 use Rattle.accepting.proofs.rise.Statement.{statement}
 use Rattle.accepting.proofs.rise.Tie as tie
-use Rattle.accepting.proofs.rise.Reads as reads
-use Rattle.accepting.proofs.rise.Lts as lts
-use Rattle.words.proofs.u16_at.Reads as u16-at-reads
 
 abbrev Inv-loop : tie.InvT-loop
 Inv-loop apart n bytes at left₀ low₀ high₀ p₀ left low high p = (left ≤ n) × (p ≤ length bytes) × (p + 2 * left ≡ at + 2 * n) × (high + apart * left ≡ 65535) × Leads (rise apart n 0) (wordsAt bytes at n) (at + 2 * n) bytes at (rise apart left low) (wordsAt bytes p left) p

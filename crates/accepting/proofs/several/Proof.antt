@@ -2,11 +2,8 @@
 -- Assumes nothing.
 use native.Mathlib.Omega.{arith}
 use Rattle.accepting.proofs.PieceLaws.{several-short, several-taken}
-use borrow.Author.Needs.{needs}
 use Rattle.accepting.proofs.several.Statement.{statement}
 use Rattle.accepting.proofs.several.Tie as tie
-use Rattle.accepting.proofs.several.Reads as reads
-use Rattle.accepting.proofs.several.Lts as lts
 
 sub-if1 : tie.Need-sub-if1
 sub-if1 c = omega (arith, c .pre)

@@ -6,9 +6,6 @@ use Rattle.drafts.proofs.DraftLaws.{none-added}
 use borrow.Author.Needs.{needs}
 use Rattle.drafts.proofs.add_direct_lookup.Statement.{statement}
 use Rattle.drafts.proofs.add_direct_lookup.Tie as tie
-use Rattle.drafts.proofs.add_direct_lookup.Reads as reads
-use Rattle.drafts.proofs.add_direct_lookup.Lts as lts
-use Rattle.drafts.proofs.push.Reads as push-reads
 
 returns : tie.Need-returns
 returns c =

@@ -1,6 +1,6 @@
 -- `drafts::push` meets its contract.
 -- Assumes nothing.
-use mathlib.Core.Path.{_≡_, ap, _∙_}
+use mathlib.Core.Path.{ap, _∙_}
 use Prim.Native.Nat.{_≤_, _+_}
 use lib.ListN.{length}
 use native.Mathlib.Omega.{arith}
@@ -13,11 +13,6 @@ use Rattle.drafts.proofs.RoomLaws.{Bounds, fit-bounds}
 use borrow.Author.Needs.{needs}
 use Rattle.drafts.proofs.push.Statement.{statement}
 use Rattle.drafts.proofs.push.Tie as tie
-use Rattle.drafts.proofs.push.Reads as reads
-use Rattle.drafts.proofs.push.Lts as lts
-use Rattle.drafts.proofs.Draft.with.Reads as with-reads
-use Rattle.drafts.proofs.serialize.Reads as serialize-reads
-use Rattle.layouts.proofs.Written.length.Reads as length-reads
 
 -- what was asked: the lookup is not refused, and has at most so many bytes
 fit : (b : tie.After-slice-known) → Bounds (b .before .before .before .args .kind) (lookupOf (b .before .before .before .args .flags) (b .before .before .before .args .kind) (b .before .before .before .args .glyphs .now) (b .before .before .before .args .substitutes .now)) (b .before .before .before .args .draft) (b .before .before .before .args .scratch .now)

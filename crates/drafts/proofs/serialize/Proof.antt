@@ -3,10 +3,6 @@
 use borrow.Author.Needs.{needs}
 use Rattle.drafts.proofs.serialize.Statement.{statement}
 use Rattle.drafts.proofs.serialize.Tie as tie
-use Rattle.drafts.proofs.serialize.Reads as reads
-use Rattle.drafts.proofs.serialize.Lts as lts
-use Rattle.ligatures.proofs.serialize_ligature_lookup.Reads as serialize-ligature-lookup-reads
-use Rattle.singles.proofs.serialize_single_lookup.Reads as serialize-single-lookup-reads
 
 enum-told : tie.Need-enum-told
 enum-told c = search needs

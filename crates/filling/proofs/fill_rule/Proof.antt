@@ -3,12 +3,8 @@
 use native.Mathlib.Omega.{arith}
 use lib.ListN.{length-set}
 use Rattle.filling.proofs.FillLaws.{pair-filled, triple-filled}
-use borrow.Author.Needs.{needs}
 use Rattle.filling.proofs.fill_rule.Statement.{statement}
 use Rattle.filling.proofs.fill_rule.Tie as tie
-use Rattle.filling.proofs.fill_rule.Reads as reads
-use Rattle.filling.proofs.fill_rule.Lts as lts
-use Rattle.words.proofs.u16_at.Reads as u16-at-reads
 
 mul-components : tie.Need-mul-components
 mul-components c = omega (arith, c .before .before .pre .3)

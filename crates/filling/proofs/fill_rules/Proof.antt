@@ -6,10 +6,6 @@ use lib.ListN.{length}
 use Rattle.filling.proofs.FillLaws.{Going, going-begins, going-fits, going-next, going-ends}
 use Rattle.filling.proofs.fill_rules.Statement.{statement}
 use Rattle.filling.proofs.fill_rules.Tie as tie
-use Rattle.filling.proofs.fill_rules.Reads as reads
-use Rattle.filling.proofs.fill_rules.Lts as lts
-use Rattle.filling.proofs.fill_rule.Reads as fill-rule-reads
-use Rattle.words.proofs.u16_at.Reads as u16-at-reads
 
 abbrev Inv-loop : tie.InvT-loop
 Inv-loop n lead c bytes at components₀ x ligatures₀ i left₀ p₀ y₀ j₀ components ligatures left p y j =

@@ -8,10 +8,6 @@ use Rattle.scanning.specs.Grammar.{setSize}
 use Rattle.filling.proofs.SetsLaws.{Filling, filling-begins, filling-reads, filling-fits, filling-next, filling-ends}
 use Rattle.filling.proofs.fill_sets.Statement.{statement}
 use Rattle.filling.proofs.fill_sets.Tie as tie
-use Rattle.filling.proofs.fill_sets.Reads as reads
-use Rattle.filling.proofs.fill_sets.Lts as lts
-use Rattle.filling.proofs.fill_rules.Reads as fill-rules-reads
-use Rattle.words.proofs.u16_at.Reads as u16-at-reads
 
 abbrev Inv-loop : tie.InvT-loop
 Inv-loop n s bytes components₀ ligatures₀ left₀ leads₀ p₀ x₀ i₀ components ligatures left leads p x i =

@@ -5,9 +5,6 @@ use Rattle.fonts.proofs.FontLaws.{usable-glyph, large-glyph, no-glyph}
 use borrow.Author.Needs.{needs}
 use Rattle.fonts.proofs.glyph_for_codepoint.Statement.{statement}
 use Rattle.fonts.proofs.glyph_for_codepoint.Tie as tie
-use Rattle.fonts.proofs.glyph_for_codepoint.Reads as reads
-use Rattle.fonts.proofs.glyph_for_codepoint.Lts as lts
-use Rattle.fonts.proofs.nominal_glyph.Reads as nominal-glyph-reads
 
 nominal-glyph-requires : tie.Need-nominal-glyph-requires
 nominal-glyph-requires c κs = search needs

@@ -3,8 +3,6 @@
 use borrow.Author.Tests.{lt-ltb, le-ltb}
 use Rattle.fonts.proofs.later.Statement.{statement}
 use Rattle.fonts.proofs.later.Tie as tie
-use Rattle.fonts.proofs.later.Reads as reads
-use Rattle.fonts.proofs.later.Lts as lts
 
 returns : tie.Need-returns
 returns c = rw (lt-ltb (c .before .args .sought) (c .before .args .code) (c .if1 .taken))

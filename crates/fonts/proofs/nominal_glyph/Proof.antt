@@ -4,9 +4,6 @@ use native.Mathlib.Omega.{arith}
 use Rattle.fonts.proofs.FontLaws.{Searching, searching-begins, searching-next, searching-inside, searching-middle, searching-finds, searching-ends, searching-nowhere}
 use Rattle.fonts.proofs.nominal_glyph.Statement.{statement}
 use Rattle.fonts.proofs.nominal_glyph.Tie as tie
-use Rattle.fonts.proofs.nominal_glyph.Reads as reads
-use Rattle.fonts.proofs.nominal_glyph.Lts as lts
-use Rattle.fonts.proofs.later.Reads as later-reads
 
 abbrev Inv-loop : tie.InvT-loop
 Inv-loop codes glyphs span sought n tail base₀ half₀ base half = Searching codes sought base half

@@ -5,8 +5,6 @@ use native.Mathlib.Omega.{arith}
 use Rattle.fonts.proofs.FontLaws.{Doubling, doubling-begins, doubling-some, doubling-next, doubling-ends}
 use Rattle.fonts.proofs.span_of.Statement.{statement}
 use Rattle.fonts.proofs.span_of.Tie as tie
-use Rattle.fonts.proofs.span_of.Reads as reads
-use Rattle.fonts.proofs.span_of.Lts as lts
 
 abbrev Inv-loop : tie.InvT-loop
 Inv-loop n span₀ span = Doubling n span

@@ -13,9 +13,6 @@ use Rattle.accepting.proofs.PieceLaws.{these-short, these-wrong, these-more, th
 use Rattle.grouping.proofs.RuleLaws.{evenly-next, more}
 use Rattle.grouping.proofs.evenly.Statement.{statement}
 use Rattle.grouping.proofs.evenly.Tie as tie
-use Rattle.grouping.proofs.evenly.Reads as reads
-use Rattle.grouping.proofs.evenly.Lts as lts
-use Rattle.words.proofs.u16_at.Reads as u16-at-reads
 
 abbrev Inv-loop : tie.InvT-loop
 Inv-loop c first by bytes at left₀ o₀ p₀ left o p = (left ≤ c) × (p ≤ length bytes) × (p + 2 * left ≡ at + 2 * c) × (o + left * by ≡ first + c * by) × Leads (these (evenly c first by)) tt (at + 2 * c) bytes at (these (evenly left o by)) tt p

@@ -5,11 +5,8 @@ use mathlib.Core.Path.{sym}
 use Prim.Native.Nat.{_+_, _-_, _*_}
 use native.Mathlib.Nat.{div-mul-le-self}
 use Rattle.grouping.proofs.StartLaws.{size-small, size-is}
-use borrow.Author.Needs.{needs}
 use Rattle.grouping.proofs.is_size.Statement.{statement}
 use Rattle.grouping.proofs.is_size.Tie as tie
-use Rattle.grouping.proofs.is_size.Reads as reads
-use Rattle.grouping.proofs.is_size.Lts as lts
 
 returns : tie.Need-returns
 returns c = sym (size-small (c .before .args .n) (c .before .args .size) (c .if1 .taken))

@@ -13,10 +13,6 @@ use Rattle.accepting.proofs.TookLaws.{Leads}
 use Rattle.grouping.proofs.StartLaws.{stands, room-fits, later-short, later-low, later-wrong, later-more, later-none}
 use Rattle.grouping.proofs.later.Statement.{statement}
 use Rattle.grouping.proofs.later.Tie as tie
-use Rattle.grouping.proofs.later.Reads as reads
-use Rattle.grouping.proofs.later.Lts as lts
-use Rattle.grouping.proofs.is_size.Reads as is-size-reads
-use Rattle.words.proofs.u16_at.Reads as u16-at-reads
 
 abbrev Inv-loop : tie.InvT-loop
 Inv-loop n count start bytes at left₀ o₀ p₀ left o p = (left ≤ count) × (p ≤ length bytes) × (p + 2 * left ≡ at + 2 * count) × Leads (later n count start) (wordsAt bytes at count) (at + 2 * count) bytes at (later n left o) (wordsAt bytes p left) p

@@ -6,9 +6,6 @@ use Rattle.grouping.proofs.GoingLaws.{size-fits}
 use borrow.Author.Needs.{needs}
 use Rattle.grouping.proofs.may_have.Statement.{statement}
 use Rattle.grouping.proofs.may_have.Tie as tie
-use Rattle.grouping.proofs.may_have.Reads as reads
-use Rattle.grouping.proofs.may_have.Lts as lts
-use Rattle.words.proofs.u16_at.Reads as u16-at-reads
 
 mul-result : tie.Need-mul-result
 mul-result c = omega (arith, c .before .before .pre .0)

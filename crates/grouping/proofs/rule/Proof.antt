@@ -6,10 +6,6 @@ use Rattle.grouping.proofs.RuleLaws.{rule-stops, rule-number, rule-take
 use borrow.Author.Needs.{needs}
 use Rattle.grouping.proofs.rule.Statement.{statement}
 use Rattle.grouping.proofs.rule.Tie as tie
-use Rattle.grouping.proofs.rule.Reads as reads
-use Rattle.grouping.proofs.rule.Lts as lts
-use Rattle.accepting.proofs.exactly.Reads as exactly-reads
-use Rattle.accepting.proofs.several.Reads as several-reads
 
 several-requires : tie.Need-several-requires
 several-requires c κs = c .before .pre .0

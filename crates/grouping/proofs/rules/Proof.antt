@@ -12,9 +12,6 @@ use Rattle.grouping.specs.Grouped.{rulesAt}
 use Rattle.grouping.proofs.RuleLaws.{more, rules-stops, rules-more, rules-none}
 use Rattle.grouping.proofs.rules.Statement.{statement}
 use Rattle.grouping.proofs.rules.Tie as tie
-use Rattle.grouping.proofs.rules.Reads as reads
-use Rattle.grouping.proofs.rules.Lts as lts
-use Rattle.grouping.proofs.rule.Reads as rule-reads
 
 abbrev Inv-loop : tie.InvT-loop
 Inv-loop n c bytes at left₀ p₀ left p = (p ≤ length bytes) × (p + left * (2 + 2 * n) ≡ at + c * (2 + 2 * n)) × ((lead : ℕ) → Leads (ruled n lead c) (rulesAt n lead c bytes at) (at + c * (2 + 2 * n)) bytes at (ruled n lead left) (rulesAt n lead left bytes p) p)

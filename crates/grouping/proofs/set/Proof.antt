@@ -3,13 +3,8 @@
 use native.Mathlib.Omega.{arith}
 use Rattle.accepting.proofs.TookLaws.{took-place}
 use Rattle.grouping.proofs.RuleLaws.{steps-fit, set-stops, set-taken}
-use borrow.Author.Needs.{needs}
 use Rattle.grouping.proofs.set.Statement.{statement}
 use Rattle.grouping.proofs.set.Tie as tie
-use Rattle.grouping.proofs.set.Reads as reads
-use Rattle.grouping.proofs.set.Lts as lts
-use Rattle.grouping.proofs.evenly.Reads as evenly-reads
-use Rattle.grouping.proofs.rules.Reads as rules-reads
 
 mul-evenly : tie.Need-mul-evenly
 mul-evenly c = omega (arith, c .before .pre .3)

@@ -6,11 +6,6 @@ use mathlib.Core.Path.{sym, _∙_}
 use Rattle.grouping.proofs.GoingLaws.{Going, size-fits, going-begins, going-short, going-wrong, going-stops, going-next, going-ends}
 use Rattle.grouping.proofs.sets.Statement.{statement}
 use Rattle.grouping.proofs.sets.Tie as tie
-use Rattle.grouping.proofs.sets.Reads as reads
-use Rattle.grouping.proofs.sets.Lts as lts
-use Rattle.grouping.proofs.may_have.Reads as may-have-reads
-use Rattle.grouping.proofs.set.Reads as set-reads
-use Rattle.words.proofs.u16_at.Reads as u16-at-reads
 
 abbrev Inv-loop : tie.InvT-loop
 Inv-loop n s bytes left₀ o₀ next₀ p₀ left o next p = Going n s bytes left o next p

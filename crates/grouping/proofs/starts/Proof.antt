@@ -6,10 +6,6 @@ use Rattle.grouping.proofs.StartLaws.{starts-none, starts-stops, starts
 use borrow.Author.Needs.{needs}
 use Rattle.grouping.proofs.starts.Statement.{statement}
 use Rattle.grouping.proofs.starts.Tie as tie
-use Rattle.grouping.proofs.starts.Reads as reads
-use Rattle.grouping.proofs.starts.Lts as lts
-use Rattle.accepting.proofs.exactly.Reads as exactly-reads
-use Rattle.grouping.proofs.later.Reads as later-reads
 
 returns : tie.Need-returns
 returns c = starts-none (c .before .before .args .n) (c .before .before .args .bytes .now) (c .before .before .args .at) (c .before .before .args .s) (c .if1 .taken) (c .before .before .pre .0)

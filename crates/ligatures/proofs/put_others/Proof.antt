@@ -5,9 +5,6 @@ use Rattle.ligatures.proofs.PlaceLaws.{one-written, two-written}
 use borrow.Author.Needs.{needs}
 use Rattle.ligatures.proofs.put_others.Statement.{statement}
 use Rattle.ligatures.proofs.put_others.Tie as tie
-use Rattle.ligatures.proofs.put_others.Reads as reads
-use Rattle.ligatures.proofs.put_others.Lts as lts
-use Rattle.words.proofs.put_u16.Reads as put-u16-reads
 
 add-put-u16 : tie.Need-add-put-u16
 add-put-u16 c = omega (arith, c .before .before .pre .0, c .before .before .pre .2)

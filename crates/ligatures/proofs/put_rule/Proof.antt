@@ -10,10 +10,6 @@ use Rattle.ligatures.proofs.PlaceLaws.{inside, rule-words, rule-written
 use borrow.Author.Needs.{needs}
 use Rattle.ligatures.proofs.put_rule.Statement.{statement}
 use Rattle.ligatures.proofs.put_rule.Tie as tie
-use Rattle.ligatures.proofs.put_rule.Reads as reads
-use Rattle.ligatures.proofs.put_rule.Lts as lts
-use Rattle.ligatures.proofs.put_others.Reads as put-others-reads
-use Rattle.words.proofs.put_u16.Reads as put-u16-reads
 
 abbrev began : tie.After-slice-known3 → tie.Start
 began c = c .before .before .before .before .before .before .before .before .before .before .before .before

@@ -14,10 +14,6 @@ use Rattle.reading.proofs.ReadLaws.{ligature-place, rules-count, parts-
 use borrow.Author.Needs.{needs}
 use Rattle.reading.proofs.read_ligature.Statement.{statement}
 use Rattle.reading.proofs.read_ligature.Tie as tie
-use Rattle.reading.proofs.read_ligature.Reads as reads
-use Rattle.reading.proofs.read_ligature.Lts as lts
-use Rattle.filling.proofs.fill_sets.Reads as fill-sets-reads
-use Rattle.words.proofs.u16_at.Reads as u16-at-reads
 
 -- the number of sets that is read
 sets-is : (u : tie.After-u16-at) → (u .u16-at .result - 6) / 2 ≡ countAt (u .before .before .before .before .args .bytes .now)

@@ -5,11 +5,6 @@ use Rattle.reading.proofs.ReadLaws.{no-lookup, held-none, held-single, 
 use borrow.Author.Needs.{needs}
 use Rattle.reading.proofs.read_lookup.Statement.{statement}
 use Rattle.reading.proofs.read_lookup.Tie as tie
-use Rattle.reading.proofs.read_lookup.Reads as reads
-use Rattle.reading.proofs.read_lookup.Lts as lts
-use Rattle.reading.proofs.read_ligature.Reads as read-ligature-reads
-use Rattle.reading.proofs.read_single.Reads as read-single-reads
-use Rattle.recognizing.proofs.recognize.Reads as recognize-reads
 
 recognize-requires : tie.Need-recognize-requires
 recognize-requires c κs = search needs

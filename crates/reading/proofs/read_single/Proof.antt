@@ -11,10 +11,6 @@ use Rattle.reading.proofs.ReadLaws.{single-place, single-room, single-r
 use borrow.Author.Needs.{needs}
 use Rattle.reading.proofs.read_single.Statement.{statement}
 use Rattle.reading.proofs.read_single.Tie as tie
-use Rattle.reading.proofs.read_single.Reads as reads
-use Rattle.reading.proofs.read_single.Lts as lts
-use Rattle.words.proofs.get_words.Reads as get-words-reads
-use Rattle.words.proofs.u16_at.Reads as u16-at-reads
 
 -- the lookup is in the bytes
 place : (s : tie.Start) → 18 + 4 * ((length (s .args .bytes .now) - 18) / 4) ≤ length (s .args .bytes .now)

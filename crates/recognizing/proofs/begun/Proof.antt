@@ -5,11 +5,6 @@ use Rattle.recognizing.proofs.WholeLaws.{counts-stopped, begun-head, be
 use borrow.Author.Needs.{needs}
 use Rattle.recognizing.proofs.begun.Statement.{statement}
 use Rattle.recognizing.proofs.begun.Tie as tie
-use Rattle.recognizing.proofs.begun.Reads as reads
-use Rattle.recognizing.proofs.begun.Lts as lts
-use Rattle.accepting.proofs.counted.Reads as counted-reads
-use Rattle.accepting.proofs.exactly.Reads as exactly-reads
-use Rattle.accepting.proofs.headed.Reads as headed-reads
 
 headed-requires : tie.Need-headed-requires
 headed-requires c κs = search needs

@@ -6,8 +6,6 @@ use Rattle.accepting.specs.declared.Scanned.{Scanned}
 use Rattle.recognizing.specs.Recognized.{inside}
 use Rattle.recognizing.proofs.ends.Statement.{statement}
 use Rattle.recognizing.proofs.ends.Tie as tie
-use Rattle.recognizing.proofs.ends.Reads as reads
-use Rattle.recognizing.proofs.ends.Lts as lts
 
 enum-known-scanned : tie.Need-enum-known-scanned
 enum-known-scanned c = search needs

@@ -9,13 +9,6 @@ use Rattle.recognizing.proofs.WholeLaws.{opened-stopped, opened-known, 
 use borrow.Author.Needs.{needs}
 use Rattle.recognizing.proofs.ligature.Statement.{statement}
 use Rattle.recognizing.proofs.ligature.Tie as tie
-use Rattle.recognizing.proofs.ligature.Reads as reads
-use Rattle.recognizing.proofs.ligature.Lts as lts
-use Rattle.accepting.proofs.covered.Reads as covered-reads
-use Rattle.grouping.proofs.sets.Reads as sets-reads
-use Rattle.grouping.proofs.starts.Reads as starts-reads
-use Rattle.recognizing.proofs.begun.Reads as begun-reads
-use Rattle.words.proofs.u16_at.Reads as u16-at-reads
 
 mul-begun : tie.Need-mul-begun
 mul-begun c = omega (arith, c .before .pre .1)

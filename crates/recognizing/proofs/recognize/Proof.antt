@@ -8,11 +8,6 @@ use Rattle.recognizing.proofs.EndLaws.{Other, took-inside, read-odd, re
 use borrow.Author.Needs.{needs}
 use Rattle.recognizing.proofs.recognize.Statement.{statement}
 use Rattle.recognizing.proofs.recognize.Tie as tie
-use Rattle.recognizing.proofs.recognize.Reads as reads
-use Rattle.recognizing.proofs.recognize.Lts as lts
-use Rattle.recognizing.proofs.ends.Reads as ends-reads
-use Rattle.recognizing.proofs.ligature.Reads as ligature-reads
-use Rattle.recognizing.proofs.single.Reads as single-reads
 
 -- the bytes are no single lookup
 first-other : (m : tie.Else2) → Other (singleScan 0 (from (m .before .before .before .before .before .args .bytes .now) 0))

@@ -9,12 +9,6 @@ use Rattle.recognizing.proofs.WholeLaws.{opened-stopped, opened-known, 
 use borrow.Author.Needs.{needs}
 use Rattle.recognizing.proofs.single.Statement.{statement}
 use Rattle.recognizing.proofs.single.Tie as tie
-use Rattle.recognizing.proofs.single.Reads as reads
-use Rattle.recognizing.proofs.single.Lts as lts
-use Rattle.accepting.proofs.covered.Reads as covered-reads
-use Rattle.accepting.proofs.several.Reads as several-reads
-use Rattle.recognizing.proofs.begun.Reads as begun-reads
-use Rattle.words.proofs.u16_at.Reads as u16-at-reads
 
 begun-requires : tie.Need-begun-requires
 begun-requires c κs = omega arith

@@ -8,9 +8,6 @@ use Rattle.singles.proofs.SingleLaws.{uneven-refused, long-refused, roo
 use borrow.Author.Needs.{needs}
 use Rattle.singles.proofs.serialize_single_lookup.Statement.{statement}
 use Rattle.singles.proofs.serialize_single_lookup.Tie as tie
-use Rattle.singles.proofs.serialize_single_lookup.Reads as reads
-use Rattle.singles.proofs.serialize_single_lookup.Lts as lts
-use Rattle.words.proofs.put_words.Reads as put-words-reads
 
 glyphs-fit : (k : tie.After-slice-known) (i : ℕ) → getD (k .before .before .before .args .glyphs .now) i 0 < 65536
 glyphs-fit k i = omega (arith, k .before .before .shared-slice-known .given i)

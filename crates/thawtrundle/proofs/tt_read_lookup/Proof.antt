@@ -1,6 +1,5 @@
 -- `tt_read_lookup` meets its contract.
 -- Assumes nothing.
-use Rattle.reading.specs.Read.{columns}
 use Rattle.thawtrundle.proofs.ToldLaws.{read-as, refused-as}
 use borrow.Author.Needs.{needs}
 use Rattle.thawtrundle.proofs.tt_read_lookup.Statement.{statement}

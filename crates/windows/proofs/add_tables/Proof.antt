@@ -1,6 +1,6 @@
 -- `windows::add_tables` meets its contract: after each of the five calls the plan has come a lookup further.
 -- Assumes nothing.
-use mathlib.Core.Path.{_≡_, refl}
+use mathlib.Core.Path.{refl}
 use mathlib.Core.List.{List, [], _++_, append-assoc}
 use Prim.Native.Nat.{ℕ, _+_}
 use native.Mathlib.Omega.{arith}
@@ -8,17 +8,13 @@ use lib.ListN.{length}
 use Rattle.layouts.specs.declared.Kind.the-variants.{Single, Ligature}
 use Rattle.layouts.specs.Lookups.{flat}
 use Rattle.drafts.specs.Features.{initOf, mediOf, finaOf, rligOf, ignoreMarks}
-use Rattle.drafts.specs.Entries.{Entry, entry, most}
+use Rattle.drafts.specs.Entries.{Entry, entry}
 use Rattle.drafts.specs.Drafted.{Reached}
 use Rattle.drafts.proofs.DraftLaws.{reached-begin, reached-more, reached-fit, rules-added}
 use Rattle.windows.specs.Tables.{initial, medial, final, lamAlef, shadda}
 use borrow.Author.Needs.{needs}
 use Rattle.windows.proofs.add_tables.Statement.{statement}
 use Rattle.windows.proofs.add_tables.Tie as tie
-use Rattle.windows.proofs.add_tables.Reads as reads
-use Rattle.windows.proofs.add_tables.Lts as lts
-use Rattle.drafts.proofs.Draft.new.Reads as new-reads
-use Rattle.drafts.proofs.add_direct_lookup.Reads as add-direct-lookup-reads
 
 -- the entries so far, by the masks lent
 abbrev to-lam-alef : List ℕ → List Entry

@@ -9,9 +9,6 @@ use Rattle.fonts.specs.Font.{absent, numberFound}
 use borrow.Author.Needs.{needs}
 use Rattle.windows.proofs.has_glyph.Statement.{statement}
 use Rattle.windows.proofs.has_glyph.Tie as tie
-use Rattle.windows.proofs.has_glyph.Reads as reads
-use Rattle.windows.proofs.has_glyph.Lts as lts
-use Rattle.fonts.proofs.nominal_glyph.Reads as nominal-glyph-reads
 
 nominal-glyph-requires : tie.Need-nominal-glyph-requires
 nominal-glyph-requires c κs = search needs

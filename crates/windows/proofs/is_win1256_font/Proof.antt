@@ -6,10 +6,6 @@ use Rattle.windows.specs.Windows.{signed}
 use borrow.Author.Needs.{needs}
 use Rattle.windows.proofs.is_win1256_font.Statement.{statement}
 use Rattle.windows.proofs.is_win1256_font.Tie as tie
-use Rattle.windows.proofs.is_win1256_font.Reads as reads
-use Rattle.windows.proofs.is_win1256_font.Lts as lts
-use Rattle.windows.proofs.has_glyph.Reads as has-glyph-reads
-use Rattle.fonts.proofs.span_of.Reads as span-of-reads
 
 span-of-requires : tie.Need-span-of-requires
 span-of-requires c κs = tt

@@ -5,11 +5,6 @@ use Rattle.drafts.proofs.DraftLaws.{begun-drafted}
 use borrow.Author.Needs.{needs}
 use Rattle.windows.proofs.new_win1256.Statement.{statement}
 use Rattle.windows.proofs.new_win1256.Tie as tie
-use Rattle.windows.proofs.new_win1256.Reads as reads
-use Rattle.windows.proofs.new_win1256.Lts as lts
-use Rattle.drafts.proofs.Draft.new.Reads as new-reads
-use Rattle.windows.proofs.add_tables.Reads as add-tables-reads
-use Rattle.windows.proofs.is_win1256_font.Reads as is-win1256-font-reads
 
 is-win1256-font-requires : tie.Need-is-win1256-font-requires
 is-win1256-font-requires c κs = search needs

@@ -10,9 +10,6 @@ use Rattle.words.specs.Words.{wordsAt}
 use Rattle.words.proofs.WordLaws.{length-words, paste-front, fill-last}
 use Rattle.words.proofs.get_words.Statement.{statement}
 use Rattle.words.proofs.get_words.Tie as tie
-use Rattle.words.proofs.get_words.Reads as reads
-use Rattle.words.proofs.get_words.Lts as lts
-use Rattle.words.proofs.u16_at.Reads as u16-at-reads
 
 abbrev Inv-loop : tie.InvT-loop
 Inv-loop bytes at n column₀ i₀ column i = (i ≤ n) × (length column ≡ length column₀) × (pasted (wordsAt bytes at i) 0 column ≡ pasted (wordsAt bytes at n) 0 column₀)

@@ -7,9 +7,6 @@ use Rattle.words.specs.Words.{Wrote}
 use Rattle.words.proofs.WroteLaws.{begin, next, room-next, no-more}
 use Rattle.words.proofs.put_words.Statement.{statement}
 use Rattle.words.proofs.put_words.Tie as tie
-use Rattle.words.proofs.put_words.Reads as reads
-use Rattle.words.proofs.put_words.Lts as lts
-use Rattle.words.proofs.put_u16.Reads as put-u16-reads
 
 abbrev Inv-loop : tie.InvT-loop
 Inv-loop words area₀ at i₀ p₀ area i p = (i ≤ length words) × Wrote area₀ at words area p (drop i words)

@@ -6,8 +6,6 @@ use native.Mathlib.Omega.{arith}
 use Rattle.words.specs.Words.{wordAt}
 use Rattle.words.proofs.u16_at.Statement.{statement}
 use Rattle.words.proofs.u16_at.Tie as tie
-use Rattle.words.proofs.u16_at.Reads as reads
-use Rattle.words.proofs.u16_at.Lts as lts
 
 shared-slice-read-result : tie.Need-shared-slice-read-result
 shared-slice-read-result c = search needs

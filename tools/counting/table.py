@@ -1,10 +1,10 @@
 #!/usr/bin/env python3
 """Compares both sides' answers, counts their instructions and prints the tables, as Markdown.
 
-    table.py [--quick] [--only GROUP,..] [--write PAGE] COUNT DRIVER
+    table.py [--quick] [--only GROUP,..] [--write PAGE] [--counted-by TEXT] COUNT DRIVER
 
 COUNT DRIVER WORDS.. runs the driver once and prints a line `total N`. Groups are the keys of GROUPS. With --write the tables go into PAGE, between its
-two marker lines, and are printed, too. Status 1: the sides differ, or a run failed.
+two marker lines, and are printed, too. Status 1: the sides differ, or a run failed. 2: bad usage.
 """
 import argparse
 import concurrent.futures
@@ -44,7 +44,7 @@ GROUPS = {
         *grown("right to left", "stretch/tiles/rtl", wanted=0.90),
         *grown("left to right", "stretch/tiles/ltr", wanted=0.90),
         *grown("recorded, and no tile", "stretch/plain/rtl", wanted=0.90),
-        *grown("nothing recorded", "stretch/nothing/rtl", wanted=0.90),
+        *grown("nothing recorded", "stretch/nothing/rtl"),  # the Rust has nothing to do there
     ],
     "single": grown("glyphs rising", "write/single", wanted=0.15),
     "ligature": [row for n in (2, 3) for per_set in (8, 1) for row in grown("N = %d, %d a set" % (n, per_set), "write/%d/%d" % (n, per_set), wanted=0.50)],
@@ -243,20 +243,22 @@ def main():
     words.add_argument("--quick", action="store_true")
     words.add_argument("--only", default=",".join(GROUPS))
     words.add_argument("--write", type=pathlib.Path)
+    words.add_argument("--counted-by", default="")
     words.add_argument("count")
     words.add_argument("driver")
     given = words.parse_args()
     groups = given.only.split(",")
     for group in groups:
         if group not in GROUPS:
-            sys.exit("table.py: no such work: %s (there are %s)" % (group, ", ".join(GROUPS)))
+            words.error("no such work: %s (there are %s)" % (group, ", ".join(GROUPS)))
     groups = [group for group in GROUPS if group in groups]
     counter = Counter(given.count, given.driver)
     with concurrent.futures.ThreadPoolExecutor(min(2, os.cpu_count() or 1)) as pool:
         list(pool.map(lambda case: counter.check(*case), wanted_checks(groups, given.quick)))
         asked = list(dict.fromkeys(wanted_counts(groups, given.quick)))
         counts = dict(zip(asked, pool.map(lambda case: counter.call(*case), asked)))
-    text = "\n".join(Tables(counts).all(groups, given.quick)) + "\n"
+    counted_by = ["Counted by %s." % given.counted_by, ""] if given.counted_by else []
+    text = "\n".join([*counted_by, *Tables(counts).all(groups, given.quick)]) + "\n"
     print(text, end="")
     if given.write:
         given.write.write_text(written(given.write.read_text(encoding="utf-8"), text), encoding="utf-8")

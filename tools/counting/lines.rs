@@ -1,7 +1,7 @@
 //! Joining a line, replacing a letter of it, and the Rust's look-ups of types alone.
 
 use crate::{calls, same, stays, Side, Times};
-use oracle::ot::shaper::arabic::probe;
+use oracle::ot::shaper::arabic::{probe, ArabicShapePlan};
 use oracle::{Buffer, GlyphInfo};
 use std::hint::black_box;
 
@@ -115,27 +115,27 @@ impl Line {
     }
 }
 
-/// The Rust's side: a buffer, and its records as they were.
+/// The Rust's side: a buffer, its records as they were, and the plan with the features' masks.
 struct Rust {
     buffer: Buffer,
     records: Vec<GlyphInfo>,
+    plan: ArabicShapePlan,
     mongolian: bool,
 }
 
 impl Rust {
     fn of(line: &Line) -> Self {
         let buffer = line.buffer();
-        Rust { records: buffer.glyph_infos().to_vec(), buffer, mongolian: line.mongolian }
+        let mut masks = [0; 8];
+        masks[..7].copy_from_slice(&FEATURES);
+        Rust { records: buffer.glyph_infos().to_vec(), buffer, plan: probe::plan_data(masks, false), mongolian: line.mongolian }
     }
     fn back(&mut self) {
         self.buffer.glyph_infos_mut().copy_from_slice(&self.records);
     }
     #[inline(always)]
     fn join(&mut self) {
-        let mut masks = [0; 8];
-        masks[..7].copy_from_slice(&FEATURES);
-        let plan = probe::plan_data(masks, false);
-        probe::masks(&plan, self.mongolian, &mut self.buffer);
+        probe::masks(&self.plan, self.mongolian, &mut self.buffer);
     }
 }
 

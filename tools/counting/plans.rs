@@ -20,16 +20,15 @@ fn named(work: &str, size: usize) -> Option<(Fallback, Map)> {
     let own = arabic_fallback::probe::FALLBACK;
     let kind = work.strip_prefix("plan/")?;
     Some(match kind {
-        "rising" => (own, Map::new()).with_codes(rising),
-        "shuffled" => (own, Map::new()).with_codes(shuffled),
+        "rising" => full(own, rising),
+        "shuffled" => full(own, shuffled),
         // the rows' codes, and others until there are so many
         "wide" => {
-            let (rows, _) = (own, Map::new()).with_codes(rising);
-            let codes = codes_of(&rows);
+            let codes = codes_of(&own);
             let others = (0x4E00..).filter(|code| codes.binary_search(code).is_err()).take(size.saturating_sub(codes.len()));
             let mut all: Vec<u32> = codes.iter().copied().chain(others).collect();
             all.sort_unstable();
-            (rows, rising(all))
+            (own, rising(all))
         }
         "bare" => (own, rising(bare())),
         "windows" => {
@@ -45,22 +44,17 @@ fn named(work: &str, size: usize) -> Option<(Fallback, Map)> {
                 1_024 => alt::thousand::arabic_fallback::probe::FALLBACK,
                 _ => panic!("no rows of that size"),
             };
-            (rows, Map::new()).with_codes(rising)
+            full(rows, rising)
         }
-        "any-order" => (alt::most::arabic_fallback::probe::FALLBACK, Map::new()).with_codes(shuffled),
+        "any-order" => full(alt::most::arabic_fallback::probe::FALLBACK, shuffled),
         _ => return None,
     })
 }
 
-trait WithCodes {
-    fn with_codes(self, glyphs: fn(Vec<u32>) -> Map) -> (Fallback, Map);
-}
-impl WithCodes for (Fallback, Map) {
-    /// a font that has every code of the rows
-    fn with_codes(self, glyphs: fn(Vec<u32>) -> Map) -> (Fallback, Map) {
-        let codes = codes_of(&self.0);
-        (self.0, glyphs(codes))
-    }
+/// Rows, and a font that has every code of theirs.
+fn full(rows: Fallback, glyphs: fn(Vec<u32>) -> Map) -> (Fallback, Map) {
+    let codes = codes_of(&rows);
+    (rows, glyphs(codes))
 }
 
 /// Printable ASCII, Latin with its first extension, and the Arabic block: no presentation form.

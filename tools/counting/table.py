@@ -146,12 +146,12 @@ def number(value):
 
 
 def shown(value):
-    return "%.2f" % value if value >= 0.1 else "%.3f" % value
+    return "%.2f" % value if value >= 1 else "%.3f" % value
 
 
 def ratio(value, wanted=None):
     """A ratio above what is wanted is in bold."""
-    return "**%s**" % shown(value) if wanted is not None and float(shown(value)) > wanted else shown(value)
+    return "**%s**" % shown(value) if wanted is not None and value > wanted else shown(value)
 
 
 def unit_of(group):
@@ -175,8 +175,8 @@ class Tables:
         return self.counts[work or row.work, side, row.size]
 
     def note(self, group, row, value, wanted):
-        if wanted is not None and float(shown(value)) > wanted:
-            what = row.what + (", %s %ss" % (number(row.size), unit_of(group)) if by_size(row) else "")
+        if wanted is not None and value > wanted:
+            what = row.what + (", %s %s%s" % (number(row.size), unit_of(group), "s" * (row.size > 1)) if by_size(row) else "")
             self.above.append("%s: %s, %s for %.2f" % (group, what, shown(value), wanted))
 
     def peers(self, group, rows):

@@ -3,14 +3,13 @@
 // A wrapper does nothing but hand on. It takes a yes-or-no as a byte, 0 for no, since C may hand over any; it gives the number of refusal, 0 for
 // an accepted call, and all else that is answered through numbers lent for that, zeros with a refusal. Its statement is the call's own equation.
 ghost use mathlib.Core.Path.{_≡_};
-ghost use lib.ListN.{length};
 ghost use Rattle.refusals.specs.Left.{After};
 ghost use Rattle.recording.specs.Recorded.{yes, recordAfter};
 ghost use Rattle.recording.specs.Recorded.{requestOf as recordingOf, outcome as recordedAs};
 ghost use Rattle.lines.specs.Held.{settingOf, lineOf};
 ghost use Rattle.lines.specs.Joined.{joinAfter};
 ghost use Rattle.replacing.specs.Replaced.{requestOf, replaceAfter};
-ghost use Rattle.marks.specs.Reordered.{requestOf as partOf, columnsOf, listed, reorderAfter};
+ghost use Rattle.marks.specs.Reordered.{requestOf as partOf, columnsOf, reorderAfter};
 ghost use Rattle.runs.specs.Records.{columns};
 ghost use Rattle.stretching.specs.Stretching.{stretchedLimit, stretchAfter};
 ghost use Rattle.stretching.specs.Stretching.{requestOf as stretchOf, outcome as stretchedAs};
@@ -24,7 +23,7 @@ ghost use Rattle.fallback.specs.Plan.{inputsOf};
 ghost use Rattle.fallback.specs.Planned.{planAfter};
 ghost use Rattle.fallback.specs.Planned.{outcome as plannedAs};
 ghost use Rattle.fallback.specs.Switch.{fallbackOn};
-ghost use Rattle.thawtrundle.specs.Told.{told, places, toldOf, seen, readAs, needsOf};
+ghost use Rattle.thawtrundle.specs.Told.{told, toldOf, seen, readAs, needsOf};
 use fallback::FallbackPlan;
 use fallback::Needs;
 use letters::Category;
@@ -111,28 +110,6 @@ pub extern "C" fn tt_replace_letter(
     verdict.number()
 }
 
-// The ranges in four places: start and end of each, zeros past them.
-fn places_of(merged: Merged) -> [usize; 4]
-    ensures { λ r. ⌜ r ≡ places (listed merged) ⌝ }
-{
-    match merged {
-        Merged::Nothing => [0, 0, 0, 0],
-        Merged::One(a) => [a.from, a.to, 0, 0],
-        Merged::Two(a, b) => [a.from, a.to, b.from, b.to],
-    }
-}
-
-// How many ranges there are.
-fn count_of(merged: Merged) -> usize
-    ensures { λ r. ⌜ r ≡ length (listed merged) ⌝ }
-{
-    match merged {
-        Merged::Nothing => 0,
-        Merged::One(_) => 1,
-        Merged::Two(_, _) => 2,
-    }
-}
-
 // Reorders the modifier marks of a part of a line (`marks::reorder_modifier_combining_marks`).
 #[no_mangle]
 pub extern "C" fn tt_reorder_modifier_combining_marks(
@@ -147,11 +124,30 @@ pub extern "C" fn tt_reorder_modifier_combining_marks(
 ) -> u8
     ensures { λ r. ⌜ After r (told (now (count .exit)) (now (ranges .exit)) (columnsOf (now (codes .exit)) (now (classes .exit)))) ≡ seen toldOf (reorderAfter (partOf start end low high) (columnsOf (now (codes .entry)) (now (classes .entry)))) ⌝ }
 {
-    let answer = marks::reorder_modifier_combining_marks(codes, classes, start, end, low, high);
-    let merged = answer.merged();
-    *count = count_of(merged);
-    *ranges = places_of(merged);
-    answer.number()
+    match marks::reorder_modifier_combining_marks(codes, classes, start, end, low, high) {
+        marks::Answer::Reordered(merged) => match merged {
+            Merged::Nothing => {
+                *count = 0;
+                *ranges = [0, 0, 0, 0];
+                0
+            }
+            Merged::One(a) => {
+                *count = 1;
+                *ranges = [a.from, a.to, 0, 0];
+                0
+            }
+            Merged::Two(a, b) => {
+                *count = 2;
+                *ranges = [a.from, a.to, b.from, b.to];
+                0
+            }
+        },
+        marks::Answer::Refused(refusal) => {
+            *count = 0;
+            *ranges = [0, 0, 0, 0];
+            refusal.number()
+        }
+    }
 }
 
 // Records what `stch` has multiplied (`recording::record_stch`).

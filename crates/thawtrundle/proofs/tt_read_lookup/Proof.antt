@@ -1,6 +1,6 @@
 -- `tt_read_lookup` meets its contract.
 -- Assumes nothing.
-use Rattle.thawtrundle.proofs.ToldLaws.{read-as, refused-as}
+use Rattle.thawtrundle.proofs.ToldLaws.{read-as, unread-as}
 use borrow.Author.Needs.{needs}
 use Rattle.thawtrundle.proofs.tt_read_lookup.Statement.{statement}
 use Rattle.thawtrundle.proofs.tt_read_lookup.Tie as tie
@@ -45,7 +45,7 @@ returns-2 : tie.Need-returns-2
 returns-2 c =
     let k = c .before .before in
     let r = k .before .before .before .before .before .before in
-    refused-as _ _ (r .read-lookup .ensures) (k .refusal .given .0 .0) (k .refusal .given .1) (c .number .ensures)
+    unread-as _ _ (r .read-lookup .ensures) (k .refusal .given .0 .0) (k .refusal .given .1) (c .number .ensures)
 
 pub tt-read-lookup-spec : {M : Type 1} → statement M
 tt-read-lookup-spec =

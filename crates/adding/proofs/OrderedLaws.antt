@@ -15,7 +15,7 @@ use Rattle.ordering.proofs.KeyLaws.{Each, each-on}
 use Rattle.ordering.proofs.OrderLaws.{sorted-map, each-sorted, length-sorted}
 use Rattle.packing.specs.Packed.{pack, unpacked}
 use Rattle.packing.proofs.PackLaws.{unpacked-pack, low-pack}
-use Rattle.synthesis.specs.Rules.{rows, kindOf, usable, ruled, inOrder}
+use Rattle.synthesis.specs.Rules.{rows, kindOf, usable, ruled}
 use Rattle.synthesis.specs.Made.{Collected}
 use Rattle.synthesis.proofs.RuledLaws.{Passing, length-rows, ruled-few, ruled-usable, ruled-wide}
 use Rattle.adding.specs.Source.{Source, Lent, rulesOf}

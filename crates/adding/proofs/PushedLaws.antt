@@ -1,13 +1,12 @@
--- Rules that are one number each, laid out and added: the kind by how many glyphs a rule replaces (`kind-known`, `kind-width`); the fronts of the two columns that were filled (`first-column`, `second-column`) are those of a lookup that can be added (`columns-fit`), and the lookup is that of the rules (`columns-added`). The entry of rows, where there is a rule and where there is none (`rows-added`, `none-left`).
+-- Rules that are one number each, laid out and added: the kind by how many glyphs a rule replaces (`kind-known`, `kind-width`); the fronts of the two columns that were filled (`first-column`, `second-column`) are those of a lookup that can be added (`columns-fit`), and the lookup is that of the rules (`columns-added`). The entry of rows, where there is a rule and where there is none (`rows-added`, `none-left`), as in a font without codes (`none-without-codes`).
 -- Assumes nothing.
 use mathlib.Core.Path.{_≡_, refl, sym, ap, _∙_}
-use mathlib.Core.Bool.{true, cond}
+use mathlib.Core.Bool.{true}
 use mathlib.Core.List.{List, [], _∷_, _++_, map}
-use Prim.Native.Nat.{ℕ, zero, suc, _*_, _<_, _≤_}
+use Prim.Native.Nat.{ℕ, zero, suc, _*_, _≤_}
 use native.Mathlib.Nat.{mul-le-mul-right}
 use native.Mathlib.Omega.{arith}
 use borrow.Author.Tests.{eq-eqb, ne-eqb}
-use lib.Dec.{eqb}
 use lib.ListN.{length, take, drop, length-map}
 use lib.Seq.{take-at}
 use Rattle.layouts.specs.declared.Kind.{Kind}
@@ -15,11 +14,13 @@ use Rattle.layouts.specs.Tables.{Rule}
 use Rattle.layouts.specs.Lookups.{lookupOf, width, known, flat, ligatures, listed}
 use Rattle.packing.specs.Packed.{pack, unpacked}
 use Rattle.packing.proofs.PackLaws.{length-flat, wide-unpacked}
-use Rattle.fonts.specs.Font.{Font}
-use Rattle.synthesis.specs.Rules.{kindOf}
+use Rattle.ordering.specs.Order.{sorted}
+use Rattle.fonts.specs.Font.{Font, fontOf}
+use Rattle.synthesis.specs.Rules.{rows, kindOf, inOrder}
 use Rattle.synthesis.specs.Made.{Collected}
+use Rattle.synthesis.proofs.RuledLaws.{ruled-no-codes}
 use Rattle.drafts.specs.declared.Draft.{Draft}
-use Rattle.drafts.specs.Entries.{Entry, most}
+use Rattle.drafts.specs.Entries.{most}
 use Rattle.drafts.specs.Drafted.{Fit, Added}
 use Rattle.drafts.proofs.DraftLaws.{none-added}
 use Rattle.adding.specs.Source.{Source, Lent, rulesOf, entryOf, Roomy}
@@ -94,3 +95,13 @@ module _ (f : Font) (s : Source) (p : Lent s) (column after : List ℕ) (made : 
   rows-added h d′ scratch′ a =
       let same : map (unpacked (s .n)) (take made after) ≡ rulesOf f s = ap (map (unpacked (s .n))) front-rules ∙ unpacked-all (s .n) (rulesOf f s) (good-order f s p) in
       rw (ne-eqb (length (rulesOf f s)) 0 (λ z. h (c .counted ∙ z)), ← same) a
+
+-- a font without codes
+pub none-without-codes :
+    (codes glyphs : List ℕ) → length codes ≡ 0 → (s : Source) (mask flags : ℕ) (d : Draft) (scratch : List ℕ)
+    → Added (entryOf mask flags (kindOf (s .n)) (rulesOf (fontOf codes glyphs) s)) (most (kindOf (s .n))) d scratch d scratch
+unfolding sorted
+none-without-codes codes glyphs e s mask flags d scratch =
+    let none : rulesOf (fontOf codes glyphs) s ≡ [] =
+    ap inOrder (ruled-no-codes codes glyphs e (kindOf (s .n)) (rows (s .count) (s .n) (s .each) (s .k) (s .components) (s .ligatures))) in
+    rw none (none-added (most (kindOf (s .n))) d scratch)

@@ -17,7 +17,7 @@ use layouts::Kind;
 // Rules of a lookup, at most.
 const RULE_LIMIT: usize = 1024;
 
-// The rules of rows in order, from the start of `rules` on; how many they are. `room` is as long as `rules`, and is lent for the work.
+// The rules of rows in order, from the start of `rules` on; how many they are.
 fn order_rules(
     codes: &[u32],
     glyphs: &[u32],
@@ -28,9 +28,8 @@ fn order_rules(
     components: &[u16],
     ligatures: &[u16],
     rules: &mut [u64],
-    room: &mut [u64],
 ) -> usize
-    requires { ⌜ Sound (fontOf (now codes) (now glyphs)) × Lent (sourceOf count n each k (now components) (now ligatures)) × (count ≤ length (now rules)) × (count ≤ length (now room)) ⌝ }
+    requires { ⌜ Sound (fontOf (now codes) (now glyphs)) × Lent (sourceOf count n each k (now components) (now ligatures)) × (count ≤ length (now rules)) ⌝ }
     ensures { λ r. ⌜ Collected (rulesOf (fontOf (now (codes .entry)) (now (glyphs .entry))) (sourceOf count n each k (now (components .entry)) (now (ligatures .entry)))) (now (rules .entry)) r (now (rules .exit)) ⌝ }
 {
     let made = synthesis::collect(
@@ -44,7 +43,7 @@ fn order_rules(
         ligatures,
         rules,
     );
-    ordering::sort(&mut rules[..made], &mut room[..made]);
+    ordering::sort(&mut rules[..made]);
     made
 }
 
@@ -60,7 +59,7 @@ fn kind_of(n: usize) -> Kind
 }
 
 // Adds the lookup of rules of `n` components, which are one number each; in columns lent for 1,024 rules.
-fn push_rules(
+fn push_in(
     draft: Draft,
     mask: u32,
     flags: u16,
@@ -87,7 +86,33 @@ fn push_rules(
     )
 }
 
-// The lookup of rows, in memory lent for 1,024 rules.
+// The same in columns of its own: they are made only where there is a rule.
+fn push_rules(
+    draft: Draft,
+    mask: u32,
+    flags: u16,
+    n: usize,
+    rules: &[u64],
+    scratch: &mut [u8],
+) -> Draft
+    requires { ⌜ (1 ≤ n) × (n ≤ 3) × (length (now rules) ≤ ruleLimit) × Roomy (kindOf n) draft (now scratch) ⌝ }
+    ensures { λ r. ⌜ Added (record { mask = mask; lookup = listed flags (kindOf n) (map (unpacked n) (now (rules .entry))) } ∷ []) (most (kindOf n)) draft (now (scratch .entry)) r (now (scratch .exit)) ⌝ }
+{
+    let mut firsts = [0u16; 3 * RULE_LIMIT];
+    let mut seconds = [0u16; RULE_LIMIT];
+    push_in(
+        draft,
+        mask,
+        flags,
+        n,
+        rules,
+        &mut firsts,
+        &mut seconds,
+        scratch,
+    )
+}
+
+// The lookup of rows, with their rules in memory lent for 1,024.
 fn synthesize_in(
     draft: Draft,
     mask: u32,
@@ -101,12 +126,9 @@ fn synthesize_in(
     components: &[u16],
     ligatures: &[u16],
     rules: &mut [u64],
-    room: &mut [u64],
-    firsts: &mut [u16],
-    seconds: &mut [u16],
     scratch: &mut [u8],
 ) -> Draft
-    requires { ⌜ Sound (fontOf (now codes) (now glyphs)) × Lent (sourceOf count n each k (now components) (now ligatures)) × Roomy (kindOf n) draft (now scratch) × (length (now rules) ≡ ruleLimit) × (length (now room) ≡ ruleLimit) × (length (now firsts) ≡ 3 * ruleLimit) × (length (now seconds) ≡ ruleLimit) ⌝ }
+    requires { ⌜ Sound (fontOf (now codes) (now glyphs)) × Lent (sourceOf count n each k (now components) (now ligatures)) × Roomy (kindOf n) draft (now scratch) × (length (now rules) ≡ ruleLimit) ⌝ }
     ensures { λ r. ⌜ Added (entryOf mask flags (kindOf n) (rulesOf (fontOf (now (codes .entry)) (now (glyphs .entry))) (sourceOf count n each k (now (components .entry)) (now (ligatures .entry))))) (most (kindOf n)) draft (now (scratch .entry)) r (now (scratch .exit)) ⌝ }
 {
     let made = order_rules(
@@ -119,24 +141,14 @@ fn synthesize_in(
         components,
         ligatures,
         rules,
-        room,
     );
     if made == 0 {
         return draft;
     }
-    push_rules(
-        draft,
-        mask,
-        flags,
-        n,
-        &rules[..made],
-        firsts,
-        seconds,
-        scratch,
-    )
+    push_rules(draft, mask, flags, n, &rules[..made], scratch)
 }
 
-// Adds the lookup of rows, unless it has no mask or no rule is left.
+// Adds the lookup of rows, unless it has no mask or no rule is left. A font without codes leaves none, and no memory is made for them.
 pub fn synthesize_lookup(
     draft: Draft,
     mask: u32,
@@ -157,10 +169,10 @@ pub fn synthesize_lookup(
     if mask == 0 {
         return draft;
     }
+    if codes.len() == 0 {
+        return draft;
+    }
     let mut rules = [0u64; RULE_LIMIT];
-    let mut room = [0u64; RULE_LIMIT];
-    let mut firsts = [0u16; 3 * RULE_LIMIT];
-    let mut seconds = [0u16; RULE_LIMIT];
     synthesize_in(
         draft,
         mask,
@@ -174,9 +186,6 @@ pub fn synthesize_lookup(
         components,
         ligatures,
         &mut rules,
-        &mut room,
-        &mut firsts,
-        &mut seconds,
         scratch,
     )
 }

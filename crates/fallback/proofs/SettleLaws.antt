@@ -1,12 +1,12 @@
 -- The last step of a plan: an area that is too short is left as it was (`too-short`), any other has the bytes of the draft at its start (`put-in`). Which entries are planned (`plan-unicode`, `plan-direct`), and what the whole call answers, refused by its columns (`refused-planning`) or not (`settled-planning`).
 -- Assumes nothing.
 use mathlib.Core.Path.{_≡_, refl, sym, ap, _∙_}
-use mathlib.Core.List.{List, [], _∷_, _++_}
+use mathlib.Core.List.{List, _++_}
 use Prim.Native.Nat.{ℕ, _+_, _<_, _≤_}
 use native.Mathlib.Omega.{arith}
 use native.Mathlib.Nat.{zero-add}
 use borrow.Author.Tests.{eq-eqb, ne-eqb, lt-ltb, le-ltb}
-use lib.ListN.{length, take, drop}
+use lib.ListN.{length, drop}
 use lib.Seq.{slice}
 use Rattle.laws.specs.Rows.{first}
 use Rattle.laws.specs.Lists.{pasted}
@@ -19,8 +19,7 @@ use Rattle.refusals.specs.Left.{leaves}
 use Rattle.refusals.proofs.LeftLaws.{left-refused}
 use Rattle.words.proofs.WordLaws.{paste-front}
 use Rattle.drafts.specs.declared.Draft.{Draft}
-use Rattle.drafts.specs.Entries.{Entry, allBytes}
-use Rattle.drafts.specs.Drafted.{Drafted}
+use Rattle.drafts.specs.Entries.{allBytes}
 use Rattle.windows.specs.Windows.{direct}
 use Rattle.fallback.specs.declared.FallbackPlan.{FallbackPlan}
 use Rattle.fallback.specs.Plan.{Inputs, unicode, plan}

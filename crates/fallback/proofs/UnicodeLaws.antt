@@ -1,7 +1,7 @@
 -- The plan by Unicode: the forms below one, entry behind entry, as the loop makes them (`forming`, `form-more`, `forms-made`); what is asked of the rows of a form and of a list of ligatures (`form-lent`, `list-lent`) and of the memory (`roomy`); what passed tests say (`passed`, `Accepted`).
 -- Assumes nothing.
-use mathlib.Core.Path.{_≡_, refl, sym, ap, _∙_}
-use mathlib.Core.Bool.{true, not}
+use mathlib.Core.Path.{_≡_}
+use mathlib.Core.Bool.{not}
 use mathlib.Core.List.{List, [], _∷_, _++_, append-assoc}
 use Prim.Native.Nat.{ℕ, zero, suc, _+_, _*_, _<_, _≤_}
 use native.Mathlib.Nat.{mul-one}
@@ -21,7 +21,7 @@ use Rattle.drafts.specs.Drafted.{Reached, Added}
 use Rattle.drafts.proofs.DraftLaws.{reached-more}
 use Rattle.adding.specs.Source.{sourceOf, Lent, Roomy}
 use Rattle.fallback.specs.Plan.{Ligatures, Inputs, formed, fourForms}
-use Rattle.fallback.specs.Planned.{even, short, lentRows, flatBy, limited}
+use Rattle.fallback.specs.Planned.{even, short, lentRows}
 
 -- ---- the loop over the forms
 module _ (masks : List ℕ) (f : Font) (shaping forms : List ℕ) where

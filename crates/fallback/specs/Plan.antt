@@ -1,7 +1,7 @@
 -- The fallback plan (document 01: "The plan follows 001's order, zero masks skipped"): `Ligatures`, `Inputs`, `inputsOf` what is lent; `formed`, `fourForms`, `shaped`, `ligated` the entry of a form, and that of a list of ligatures; `unicode` the seven entries by Unicode's presentation forms; `plan` the entries of a plan, Windows-1256 second.
 -- Assumes nothing.
 use mathlib.Core.Bool.{cond}
-use mathlib.Core.List.{List, [], _++_}
+use mathlib.Core.List.{List, _++_}
 use Prim.Native.Nat.{ℕ}
 use lib.Dec.{eqb}
 use lib.ListN.{length, getD}

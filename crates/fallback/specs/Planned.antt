@@ -15,7 +15,7 @@ use Rattle.drafts.specs.Entries.{Entry, allBytes, seven, masksOf, lengthsOf, ru
 use Rattle.drafts.specs.declared.Draft.{Draft}
 use Rattle.drafts.specs.Drafted.{Drafted}
 use Rattle.fallback.specs.declared.FallbackPlan.{FallbackPlan}
-use Rattle.fallback.specs.Plan.{Ligatures, Inputs, plan}
+use Rattle.fallback.specs.Plan.{Inputs, plan}
 
 -- n numbers for each row
 abbrev pub flatBy : ℕ → List ℕ → List ℕ → Bool

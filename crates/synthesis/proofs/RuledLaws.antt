@@ -1,4 +1,4 @@
--- The rules of rows: of two lists of rows (`ruled-append`, `ruled-cons`); no more than the rows (`ruled-few`, `length-rows`); all of 16 bits (`Passing`, `ruled-usable`) and of the rows' width (`ruled-wide`).
+-- The rules of rows: of two lists of rows (`ruled-append`, `ruled-cons`); no more than the rows (`ruled-few`, `length-rows`); all of 16 bits (`Passing`, `ruled-usable`) and of the rows' width (`ruled-wide`); none in a font without codes (`ruled-no-codes`).
 -- Assumes nothing.
 use mathlib.Core.Path.{_≡_, refl, ap}
 use mathlib.Core.Bool.{Bool, true, false, cond}
@@ -11,7 +11,8 @@ use Rattle.laws.proofs.ListLaws.{those-append, those-fewer}
 use Rattle.layouts.specs.declared.Kind.{Kind}
 use Rattle.layouts.specs.Tables.{Rule}
 use Rattle.layouts.proofs.SetLaws.{Wide}
-use Rattle.fonts.specs.Font.{Font}
+use Rattle.layouts.specs.Lookups.{fits}
+use Rattle.fonts.specs.Font.{Font, fontOf, glyphAmong}
 use Rattle.synthesis.specs.Rules.{rows, asks, withGlyphs, usable, alters, ruled}
 
 -- ---- how many rows
@@ -94,3 +95,14 @@ module _ (f : Font) (kind : Kind) where
       let asked : List Rule = those (asks kind) all in
       wide-those n (alters kind) (those usable (map (withGlyphs f) asked))
       (wide-those n usable (map (withGlyphs f) asked) (wide-glyphs n f asked (wide-those n (asks kind) all (wide-rows count n each k cs ls h))))
+
+-- ---- a font without codes
+none-usable : (glyphs : List ℕ) (l : List Rule) → those usable (map (withGlyphs (fontOf [] glyphs)) l) ≡ []
+unfolding fits glyphAmong
+none-usable glyphs [] = refl
+none-usable glyphs (row ∷ rest) = none-usable glyphs rest
+
+pub ruled-no-codes : (codes glyphs : List ℕ) → length codes ≡ 0 → (kind : Kind) (l : List Rule) → ruled (fontOf codes glyphs) kind l ≡ []
+unfolding ruled
+ruled-no-codes [] glyphs e kind l = ap (those (alters kind)) (none-usable glyphs (those (asks kind) l))
+ruled-no-codes (c ∷ codes) glyphs e kind l = absurd (omega arith)

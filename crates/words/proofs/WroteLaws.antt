@@ -1,14 +1,14 @@
 -- How far a writer of words has come: it begins (`begin`); one step is after another (`then`); a writer of some words has come that far in more (`frame`, `step`), and has room for them (`room-for`); at the end all is written (`ended`); one word by its bytes (`one-word`);
--- the turns of a loop over a list of words (`next`, `room-next`, `no-more`).
+-- the turns of a loop over a list of words (`next`, `room-next`, `no-more`), and of one that writes eight at once (`eight-words`, `next-eight`, `room-eight`), with those that are left then (`left-behind`).
 -- Assumes nothing.
-use mathlib.Core.Path.{_≡_, refl, sym, ap, _∙_}
+use mathlib.Core.Path.{_≡_, refl, sym, ap, subst, _∙_}
 use mathlib.Core.List.{List, [], _∷_, _++_}
-use Prim.Native.Nat.{ℕ, suc, _+_, _*_, _/_, _%_, _≤_, _<_}
+use Prim.Native.Nat.{ℕ, suc, _+_, _-_, _*_, _/_, _%_, _≤_, _<_}
 use native.Mathlib.Nat.{add-zero}
 use native.Mathlib.Numerals.{add-one}
 use native.Mathlib.Omega.{arith}
-use lib.ListN.{length, length-set, drop-of-length-le, set, drop, getD, length-append, length-drop}
-use lib.Seq.{drop-cons}
+use lib.ListN.{length, length-set, drop-of-length-le, set, take, drop, getD, length-append, length-drop, take-append-drop}
+use lib.Seq.{take-all, drop-cons, drop-drop, getD-drop}
 use Rattle.laws.specs.Lists.{pasted}
 use Rattle.laws.proofs.PasteLaws.{length-pasted, paste-none, paste-one, paste-behind}
 use Rattle.words.specs.Words.{bytes, Wrote}
@@ -75,3 +75,38 @@ module _ {d : List ℕ} {i : ℕ} {all : List ℕ} {d′ : List ℕ} {j : ℕ} (
 
   pub no-more : length ws ≤ k → Wrote d i all d′ j (drop k ws) → Wrote d i all d′ j []
   no-more h p = rw (drop-of-length-le ws {i = k} h) at p
+
+-- ---- eight words at once
+first-eight : (ws : List ℕ) → 8 ≤ length ws → getD ws 0 0 ∷ getD ws 1 0 ∷ getD ws 2 0 ∷ getD ws 3 0 ∷ getD ws 4 0 ∷ getD ws 5 0 ∷ getD ws 6 0 ∷ getD ws 7 0 ∷ [] ≡ take 8 ws
+first-eight [] h = absurd (omega arith)
+first-eight (a ∷ []) h = absurd (omega arith)
+first-eight (a ∷ b ∷ []) h = absurd (omega arith)
+first-eight (a ∷ b ∷ c ∷ []) h = absurd (omega arith)
+first-eight (a ∷ b ∷ c ∷ d ∷ []) h = absurd (omega arith)
+first-eight (a ∷ b ∷ c ∷ d ∷ e ∷ []) h = absurd (omega arith)
+first-eight (a ∷ b ∷ c ∷ d ∷ e ∷ f ∷ []) h = absurd (omega arith)
+first-eight (a ∷ b ∷ c ∷ d ∷ e ∷ f ∷ g ∷ []) h = absurd (omega arith)
+first-eight (a ∷ b ∷ c ∷ d ∷ e ∷ f ∷ g ∷ x ∷ rest) h = refl
+
+pub eight-words :
+    (ws : List ℕ) (i : ℕ) → i + 8 ≤ length ws
+    → getD ws i 0 ∷ getD ws (i + 1) 0 ∷ getD ws (i + 2) 0 ∷ getD ws (i + 3) 0 ∷ getD ws (i + 4) 0 ∷ getD ws (i + 5) 0 ∷ getD ws (i + 6) 0 ∷ getD ws (i + 7) 0 ∷ [] ≡ take 8 (drop i ws)
+eight-words ws i h =
+    let here : getD ws i 0 ≡ getD (drop i ws) 0 0 = ap (λ (m : ℕ). getD ws m 0) (sym (add-zero i)) ∙ sym (getD-drop i ws 0 0) in
+    rw (here, ← getD-drop i ws 1 0, ← getD-drop i ws 2 0, ← getD-drop i ws 3 0, ← getD-drop i ws 4 0, ← getD-drop i ws 5 0, ← getD-drop i ws 6 0, ← getD-drop i ws 7 0)
+    (first-eight (drop i ws) (simp length-drop (omega arith)))
+
+module _ {d : List ℕ} {i : ℕ} {all : List ℕ} {d′ : List ℕ} {j : ℕ} (ws : List ℕ) (k : ℕ) where
+  pub next-eight : {d″ : List ℕ} {j′ : ℕ} → Wrote d i all d′ j (drop (8 * k) ws) → Wrote d′ j (take 8 (drop (8 * k) ws)) d″ j′ [] → Wrote d i all d″ j′ (drop (8 * (k + 1)) ws)
+  next-eight p q =
+      let same : 8 * k + 8 ≡ 8 * (k + 1) = omega arith in
+      let split : drop (8 * k) ws ≡ take 8 (drop (8 * k) ws) ++ drop (8 * (k + 1)) ws =
+      sym (take-append-drop 8 (drop (8 * k) ws)) ∙ ap (λ (r : List ℕ). take 8 (drop (8 * k) ws) ++ r) (drop-drop 8 (8 * k) ws ∙ ap (λ (m : ℕ). drop m ws) same) in
+      step (drop (8 * (k + 1)) ws) (subst (λ (r : List ℕ). Wrote d i all d′ j r) split p) q
+
+  pub room-eight : 8 * (k + 1) ≤ length ws → Wrote d i all d′ j (drop (8 * k) ws) → j + 16 ≤ length d′
+  room-eight h p = omega (arith, p .room, p .place, p .same, length-drop (8 * k) ws)
+
+-- a part of a list up to its end, as code writes it
+pub left-behind : (ws : List ℕ) (m : ℕ) → take (length ws - m) (drop m ws) ≡ drop m ws
+left-behind ws m = take-all (length ws - m) (drop m ws) (omega (arith, length-drop m ws))

@@ -4,8 +4,6 @@ use borrow.Author.Tests.{eq-eqb, ne-eqb}
 use borrow.Author.Needs.{needs}
 use Rattle.adding.proofs.kind_of.Statement.{statement}
 use Rattle.adding.proofs.kind_of.Tie as tie
-use Rattle.adding.proofs.kind_of.Reads as reads
-use Rattle.adding.proofs.kind_of.Lts as lts
 
 returns : tie.Need-returns
 returns c = rw (eq-eqb _ 1 (c .if1 .taken))

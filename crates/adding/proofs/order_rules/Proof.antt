@@ -1,6 +1,6 @@
 -- `adding::order_rules` meets its contract: rules are collected, and put into order where they stand.
 -- Assumes nothing.
-use mathlib.Core.Path.{_≡_, sym, _∙_}
+use mathlib.Core.Path.{sym}
 use Prim.Native.Nat.{_≤_}
 use native.Mathlib.Omega.{arith}
 use lib.ListN.{length}
@@ -11,10 +11,6 @@ use Rattle.adding.proofs.OrderedLaws.{few-rules, ordered-collected}
 use borrow.Author.Needs.{needs}
 use Rattle.adding.proofs.order_rules.Statement.{statement}
 use Rattle.adding.proofs.order_rules.Tie as tie
-use Rattle.adding.proofs.order_rules.Reads as reads
-use Rattle.adding.proofs.order_rules.Lts as lts
-use Rattle.ordering.proofs.sort.Reads as sort-reads
-use Rattle.synthesis.proofs.collect.Reads as collect-reads
 
 abbrev source : tie.Start → Source
 source b =
@@ -22,16 +18,13 @@ source b =
     sourceOf (a .count) (a .n) (a .each) (a .k) (a .components .now) (a .ligatures .now)
 
 -- no more rules than rows, so they are in what is lent
-few : (k : tie.After-collect) → k .collect .result ≤ k .before .before .before .before .before .before .before .before .args .count
+few : (k : tie.After-collect) → k .collect .result ≤ k .before .before .before .before .before .before .before .args .count
 few k =
-    let b = k .before .before .before .before .before .before .before .before in
+    let b = k .before .before .before .before .before .before .before in
     omega (arith, k .collect .ensures .counted, few-rules (fontOf (b .args .codes .now) (b .args .glyphs .now)) (source b) (b .pre .1))
 
 in-rules : (k : tie.After-collect) → k .collect .result ≤ length (k .collect .last .1 .1 .1 .1 .1 .1 .1 .1 .0)
-in-rules k = omega (arith, few k, k .collect .kept .1 .1 .1 .1 .1 .1 .1 .1 .0, k .before .before .before .before .before .before .before .before .pre .2)
-
-in-room : (k : tie.After-collect) → k .collect .result ≤ length (k .before .before .before .before .before .before .before .before .args .room .now)
-in-room k = omega (arith, few k, k .before .before .before .before .before .before .before .before .pre .3)
+in-rules k = omega (arith, few k, k .collect .kept .1 .1 .1 .1 .1 .1 .1 .1 .0, k .before .before .before .before .before .before .before .pre .2)
 
 collect-requires : tie.Need-collect-requires
 collect-requires c κs = search needs
@@ -42,28 +35,20 @@ slice-relend-prefix-sort c = in-rules (c .before .before)
 slice-aggregate-sort : tie.Need-slice-aggregate-sort
 slice-aggregate-sort c = sym (length-take-le _ _ (in-rules (c .before .before .before)))
 
-slice-relend-prefix-sort-2 : tie.Need-slice-relend-prefix-sort-2
-slice-relend-prefix-sort-2 c = in-room (c .before .before .before)
-
-slice-aggregate-sort-2 : tie.Need-slice-aggregate-sort-2
-slice-aggregate-sort-2 c = sym (length-take-le _ _ (in-room (c .before .before .before .before)))
-
 sort-requires : tie.Need-sort-requires
 sort-requires c κs =
-    let k = c .before .before .before .before in
-    length-take-le _ _ (in-room k) ∙ sym (length-take-le _ _ (in-rules k))
+    let k = c .before .before .before in
+    let n = length-take-le (k .collect .result) (k .collect .last .1 .1 .1 .1 .1 .1 .1 .1 .0) (in-rules k) in
+    omega (arith, n, few k, k .before .before .before .before .before .before .before .pre .1 .few)
 
 same-length : tie.Need-same-length
 same-length c = search needs
 
-same-length-2 : tie.Need-same-length-2
-same-length-2 c = search needs
-
 returns : tie.Need-returns
 returns c =
-    let q = c .before .before .before .before in
-    let k = q .before .before .before .before .before in
-    let b = k .before .before .before .before .before .before .before .before in
+    let q = c .before .before in
+    let k = q .before .before .before .before in
+    let b = k .before .before .before .before .before .before .before in
     ordered-collected (fontOf (b .args .codes .now) (b .args .glyphs .now)) (source b) (b .pre .1) (b .args .rules .now) (k .collect .last .1 .1 .1 .1 .1 .1 .1 .1 .0) (k .collect .result) (k .collect .ensures) (q .sort .last .0) (q .sort .ensures)
 
 pub order-rules-spec : {M : Type 1} → statement M
@@ -73,9 +58,6 @@ order-rules-spec =
     collect-requires
     slice-relend-prefix-sort
     slice-aggregate-sort
-    slice-relend-prefix-sort-2
-    slice-aggregate-sort-2
     sort-requires
     same-length
-    same-length-2
     returns)

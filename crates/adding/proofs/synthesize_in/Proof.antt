@@ -12,10 +12,6 @@ use Rattle.adding.proofs.PushedLaws.{none-left, rows-added}
 use borrow.Author.Needs.{needs}
 use Rattle.adding.proofs.synthesize_in.Statement.{statement}
 use Rattle.adding.proofs.synthesize_in.Tie as tie
-use Rattle.adding.proofs.synthesize_in.Reads as reads
-use Rattle.adding.proofs.synthesize_in.Lts as lts
-use Rattle.adding.proofs.order_rules.Reads as order-rules-reads
-use Rattle.adding.proofs.push_rules.Reads as push-rules-reads
 
 abbrev font : tie.Start → Font
 font b = fontOf (b .args .codes .now) (b .args .glyphs .now)
@@ -28,11 +24,11 @@ source b =
 -- no more rules than rows
 few : (o : tie.After-order-rules) → o .order-rules .result ≤ 1024
 few o =
-    let b = o .before .before .before .before .before .before .before .before .before .before .before .before in
+    let b = o .before .before .before .before .before .before .before .before in
     omega (arith, o .order-rules .ensures .counted, few-order (font b) (source b) (b .pre .1), b .pre .1 .few)
 
 in-rules : (o : tie.After-order-rules) → o .order-rules .result ≤ length (o .order-rules .last .1 .1 .1 .1 .1 .1 .1 .1 .0)
-in-rules o = omega (arith, few o, o .order-rules .kept .1 .1 .1 .1 .1 .1 .1 .1 .0, o .before .before .before .before .before .before .before .before .before .before .before .before .pre .3)
+in-rules o = omega (arith, few o, o .order-rules .kept .1 .1 .1 .1 .1 .1 .1 .1 .0, o .before .before .before .before .before .before .before .before .pre .3)
 
 order-rules-requires : tie.Need-order-rules-requires
 order-rules-requires c κs = search needs
@@ -40,50 +36,38 @@ order-rules-requires c κs = search needs
 same-length : tie.Need-same-length
 same-length c = search needs
 
-same-length-2 : tie.Need-same-length-2
-same-length-2 c = search needs
-
 returns : tie.Need-returns
 returns c =
-    let o = c .before .before .before .before .before in
-    let b = o .before .before .before .before .before .before .before .before .before .before .before .before in
+    let o = c .before .before .before in
+    let b = o .before .before .before .before .before .before .before .before in
     none-left (font b) (source b) (b .pre .1) (b .args .rules .now) (o .order-rules .last .1 .1 .1 .1 .1 .1 .1 .1 .0) (o .order-rules .result) (o .order-rules .ensures) (b .args .mask) (b .args .flags) (b .args .draft) (b .args .scratch .now) (c .if1 .taken)
 
 slice-reshare-prefix-push-rules : tie.Need-slice-reshare-prefix-push-rules
-slice-reshare-prefix-push-rules c = in-rules (c .before .before .before .before .before)
+slice-reshare-prefix-push-rules c = in-rules (c .before .before .before)
 
 slice-aggregate-push-rules : tie.Need-slice-aggregate-push-rules
-slice-aggregate-push-rules c = sym (length-take-le _ _ (in-rules (c .before .before .before .before .before .before)))
+slice-aggregate-push-rules c = sym (length-take-le _ _ (in-rules (c .before .before .before .before)))
 
 push-rules-requires : tie.Need-push-rules-requires
 push-rules-requires c κs =
-    let o = c .before .before .before .before .before .before .before .before .before in
-    let b = o .before .before .before .before .before .before .before .before .before .before .before .before in
+    let o = c .before .before .before .before .before in
+    let b = o .before .before .before .before .before .before .before .before in
     let n = length-take-le (o .order-rules .result) (o .order-rules .last .1 .1 .1 .1 .1 .1 .1 .1 .0) (in-rules o) in
-    (b .pre .1 .low, b .pre .1 .high, omega (arith, n, few o), b .pre .5, b .pre .6, b .pre .2)
+    (b .pre .1 .low, b .pre .1 .high, omega (arith, n, few o), b .pre .2)
+
+same-length-2 : tie.Need-same-length-2
+same-length-2 c = search needs
 
 same-length-3 : tie.Need-same-length-3
 same-length-3 c = search needs
 
-same-length-4 : tie.Need-same-length-4
-same-length-4 c = search needs
-
-same-length-5 : tie.Need-same-length-5
-same-length-5 c = search needs
-
-same-length-6 : tie.Need-same-length-6
-same-length-6 c = search needs
-
-same-length-7 : tie.Need-same-length-7
-same-length-7 c = search needs
-
 returns-2 : tie.Need-returns-2
 returns-2 c =
-    let q = c .before .before .before .before .before .before in
-    let e = q .before .before .before .before .before in
-    let o = e .before .before .before .before .before in
-    let b = o .before .before .before .before .before .before .before .before .before .before .before .before in
-    rows-added (font b) (source b) (b .pre .1) (b .args .rules .now) (o .order-rules .last .1 .1 .1 .1 .1 .1 .1 .1 .0) (o .order-rules .result) (o .order-rules .ensures) (b .args .mask) (b .args .flags) (b .args .draft) (b .args .scratch .now) (e .if1 .left) (q .push-rules .result) (q .push-rules .last .1 .1 .1 .1 .1 .1 .1 .0) (q .push-rules .ensures)
+    let q = c .before .before in
+    let e = q .before .before .before in
+    let o = e .before .before .before in
+    let b = o .before .before .before .before .before .before .before .before in
+    rows-added (font b) (source b) (b .pre .1) (b .args .rules .now) (o .order-rules .last .1 .1 .1 .1 .1 .1 .1 .1 .0) (o .order-rules .result) (o .order-rules .ensures) (b .args .mask) (b .args .flags) (b .args .draft) (b .args .scratch .now) (e .if1 .left) (q .push-rules .result) (q .push-rules .last .1 .1 .1 .1 .1 .0) (q .push-rules .ensures)
 
 pub synthesize-in-spec : {M : Type 1} → statement M
 synthesize-in-spec =
@@ -91,14 +75,10 @@ synthesize-in-spec =
     (tie.spec
     order-rules-requires
     same-length
-    same-length-2
     returns
     slice-reshare-prefix-push-rules
     slice-aggregate-push-rules
     push-rules-requires
+    same-length-2
     same-length-3
-    same-length-4
-    same-length-5
-    same-length-6
-    same-length-7
     returns-2)

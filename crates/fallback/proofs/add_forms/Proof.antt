@@ -12,10 +12,6 @@ use Rattle.fallback.proofs.UnicodeLaws.{forming, form-more, forms-made,
 use borrow.Author.Needs.{needs}
 use Rattle.fallback.proofs.add_forms.Statement.{statement}
 use Rattle.fallback.proofs.add_forms.Tie as tie
-use Rattle.fallback.proofs.add_forms.Reads as reads
-use Rattle.fallback.proofs.add_forms.Lts as lts
-use Rattle.adding.proofs.synthesize_lookup.Reads as synthesize-lookup-reads
-use Rattle.drafts.proofs.Draft.new.Reads as new-reads
 
 abbrev Inv-loop : tie.InvT-loop
 Inv-loop codes glyphs shaping forms scratch₀ masks draft₀ k₀ scratch draft k = (k ≤ 4) × Reached (forming masks (fontOf codes glyphs) shaping forms k) k (4114 * k) 61566 draft scratch

@@ -1,10 +1,7 @@
 -- `fallback::new_unicode` meets its contract: after each call the plan has come a list further.
 -- Assumes nothing.
-use mathlib.Core.Path.{_≡_}
 use mathlib.Core.List.{List, _++_, append-assoc}
-use Prim.Native.Nat.{_≤_}
 use native.Mathlib.Omega.{arith}
-use lib.ListN.{length}
 use Rattle.layouts.specs.declared.Kind.the-variants.{Ligature}
 use Rattle.drafts.specs.Features.{ignoreMarks}
 use Rattle.drafts.specs.Entries.{Entry}
@@ -15,10 +12,6 @@ use Rattle.fallback.proofs.UnicodeLaws.{Accepted, passed, list-lent, ro
 use borrow.Author.Needs.{needs}
 use Rattle.fallback.proofs.new_unicode.Statement.{statement}
 use Rattle.fallback.proofs.new_unicode.Tie as tie
-use Rattle.fallback.proofs.new_unicode.Reads as reads
-use Rattle.fallback.proofs.new_unicode.Lts as lts
-use Rattle.adding.proofs.synthesize_lookup.Reads as synthesize-lookup-reads
-use Rattle.fallback.proofs.add_forms.Reads as add-forms-reads
 
 abbrev inputs : tie.Start → Inputs
 inputs b =

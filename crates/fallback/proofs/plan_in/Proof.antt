@@ -1,8 +1,7 @@
 -- `fallback::plan_in` meets its contract: "If no lookup results, the Windows-1256 signature is tested".
 -- Assumes nothing.
-use mathlib.Core.Path.{_≡_, sym, _∙_}
+use mathlib.Core.Path.{sym, _∙_}
 use native.Mathlib.Omega.{arith}
-use lib.ListN.{length}
 use Rattle.drafts.proofs.DraftLaws.{drafted-inside}
 use Rattle.windows.specs.Windows.{direct}
 use Rattle.fallback.specs.Plan.{Inputs, inputsOf, unicode}
@@ -11,11 +10,6 @@ use Rattle.fallback.proofs.UnicodeLaws.{passed}
 use borrow.Author.Needs.{needs}
 use Rattle.fallback.proofs.plan_in.Statement.{statement}
 use Rattle.fallback.proofs.plan_in.Tie as tie
-use Rattle.fallback.proofs.plan_in.Reads as reads
-use Rattle.fallback.proofs.plan_in.Lts as lts
-use Rattle.fallback.proofs.new_unicode.Reads as new-unicode-reads
-use Rattle.fallback.proofs.settle.Reads as settle-reads
-use Rattle.windows.proofs.new_win1256.Reads as new-win1256-reads
 
 abbrev inputs : tie.Start → Inputs
 inputs b =

@@ -10,12 +10,6 @@ use Rattle.fallback.specs.Planned.{even, short}
 use borrow.Author.Needs.{needs}
 use Rattle.fallback.proofs.refused.Statement.{statement}
 use Rattle.fallback.proofs.refused.Tie as tie
-use Rattle.fallback.proofs.refused.Reads as reads
-use Rattle.fallback.proofs.refused.Lts as lts
-use Rattle.ligatures.proofs.flat.Reads as flat-reads
-use Rattle.refusals.proofs.Verdict.sooner.Reads as sooner-reads
-use Rattle.refusals.proofs.rising.Reads as rising-reads
-use Rattle.refusals.proofs.unless.Reads as unless-reads
 
 flat-requires : tie.Need-flat-requires
 flat-requires c κs = search needs

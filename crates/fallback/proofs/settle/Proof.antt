@@ -4,10 +4,6 @@ use Rattle.fallback.proofs.SettleLaws.{too-short, put-in}
 use borrow.Author.Needs.{needs}
 use Rattle.fallback.proofs.settle.Statement.{statement}
 use Rattle.fallback.proofs.settle.Tie as tie
-use Rattle.fallback.proofs.settle.Reads as reads
-use Rattle.fallback.proofs.settle.Lts as lts
-use Rattle.copying.proofs.copy_bytes.Reads as copy-bytes-reads
-use Rattle.fallback.proofs.FallbackPlan.none.Reads as none-reads
 
 none-requires : tie.Need-none-requires
 none-requires c κs = search needs

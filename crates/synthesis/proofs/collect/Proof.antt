@@ -7,11 +7,6 @@ use Rattle.fonts.specs.Font.{fontOf}
 use Rattle.synthesis.proofs.CollectLaws.{Collecting, collecting-begins, collecting-fits, collecting-next, collecting-ends}
 use Rattle.synthesis.proofs.collect.Statement.{statement}
 use Rattle.synthesis.proofs.collect.Tie as tie
-use Rattle.synthesis.proofs.collect.Reads as reads
-use Rattle.synthesis.proofs.collect.Lts as lts
-use Rattle.synthesis.proofs.keep.Reads as keep-reads
-use Rattle.synthesis.proofs.rule_of.Reads as rule-of-reads
-use Rattle.fonts.proofs.span_of.Reads as span-of-reads
 
 abbrev Inv-loop : tie.InvT-loop
 Inv-loop codes glyphs count n each k components ligatures rules₀ span left₀ c₀ l₀ made₀ rules left c l made =

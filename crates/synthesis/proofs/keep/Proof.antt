@@ -4,8 +4,6 @@ use Rattle.synthesis.proofs.RowLaws.{keep-one, keep-none}
 use borrow.Author.Needs.{needs}
 use Rattle.synthesis.proofs.keep.Statement.{statement}
 use Rattle.synthesis.proofs.keep.Tie as tie
-use Rattle.synthesis.proofs.keep.Reads as reads
-use Rattle.synthesis.proofs.keep.Lts as lts
 
 enum-known-row : tie.Need-enum-known-row
 enum-known-row c = search needs

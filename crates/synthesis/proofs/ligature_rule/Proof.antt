@@ -6,9 +6,6 @@ use Rattle.fonts.specs.Font.{fontOf}
 use Rattle.synthesis.proofs.RowLaws.{Packing, packing-begins, packing-next, packing-fits, packing-stops, packing-ends, ligature-missing}
 use Rattle.synthesis.proofs.ligature_rule.Statement.{statement}
 use Rattle.synthesis.proofs.ligature_rule.Tie as tie
-use Rattle.synthesis.proofs.ligature_rule.Reads as reads
-use Rattle.synthesis.proofs.ligature_rule.Lts as lts
-use Rattle.fonts.proofs.glyph_for_codepoint.Reads as glyph-for-codepoint-reads
 
 abbrev Inv-loop : tie.InvT-loop
 Inv-loop codes glyphs span n components at ligature whole x₀ k₀ x k = Packing (fontOf codes glyphs) n components at whole k x

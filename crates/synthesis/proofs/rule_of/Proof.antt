@@ -5,10 +5,6 @@ use Rattle.synthesis.proofs.RowLaws.{kind-single, kind-ligature}
 use borrow.Author.Needs.{needs}
 use Rattle.synthesis.proofs.rule_of.Statement.{statement}
 use Rattle.synthesis.proofs.rule_of.Tie as tie
-use Rattle.synthesis.proofs.rule_of.Reads as reads
-use Rattle.synthesis.proofs.rule_of.Lts as lts
-use Rattle.synthesis.proofs.ligature_rule.Reads as ligature-rule-reads
-use Rattle.synthesis.proofs.single_rule.Reads as single-rule-reads
 
 mul-single-rule : tie.Need-mul-single-rule
 mul-single-rule c = search needs

@@ -6,9 +6,6 @@ use Rattle.synthesis.proofs.RowLaws.{single-zero, single-no-form, singl
 use borrow.Author.Needs.{needs}
 use Rattle.synthesis.proofs.single_rule.Statement.{statement}
 use Rattle.synthesis.proofs.single_rule.Tie as tie
-use Rattle.synthesis.proofs.single_rule.Reads as reads
-use Rattle.synthesis.proofs.single_rule.Lts as lts
-use Rattle.fonts.proofs.glyph_for_codepoint.Reads as glyph-for-codepoint-reads
 
 returns : tie.Need-returns
 returns c =

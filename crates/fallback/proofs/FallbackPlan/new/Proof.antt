@@ -8,12 +8,6 @@ use Rattle.fallback.proofs.SettleLaws.{refused-planning, settled-planni
 use borrow.Author.Needs.{needs}
 use Rattle.fallback.proofs.FallbackPlan.new.Statement.{statement}
 use Rattle.fallback.proofs.FallbackPlan.new.Tie as tie
-use Rattle.fallback.proofs.FallbackPlan.new.Reads as reads
-use Rattle.fallback.proofs.FallbackPlan.new.Lts as lts
-use Rattle.fallback.proofs.FallbackPlan.none.Reads as none-reads
-use Rattle.fallback.proofs.plan_in.Reads as plan-in-reads
-use Rattle.fallback.proofs.refused.Reads as refused-reads
-use Rattle.refusals.proofs.Verdict.number.Reads as number-reads
 
 abbrev inputs : tie.Start → Inputs
 inputs b =

@@ -1,19 +1,14 @@
--- `adding::push_rules` meets its contract: the fronts of the two columns are those of the rules.
+-- `adding::push_in` meets its contract: the fronts of the two columns are those of the rules.
 -- Assumes nothing.
-use mathlib.Core.Path.{_≡_, sym}
+use mathlib.Core.Path.{sym}
 use Prim.Native.Nat.{_*_, _≤_}
 use native.Mathlib.Omega.{arith}
 use lib.ListN.{length, take}
 use lib.Seq.{length-take-le}
 use Rattle.adding.proofs.PushedLaws.{within, first-column, second-column, columns-fit, columns-added}
 use borrow.Author.Needs.{needs}
-use Rattle.adding.proofs.push_rules.Statement.{statement}
-use Rattle.adding.proofs.push_rules.Tie as tie
-use Rattle.adding.proofs.push_rules.Reads as reads
-use Rattle.adding.proofs.push_rules.Lts as lts
-use Rattle.adding.proofs.kind_of.Reads as kind-of-reads
-use Rattle.drafts.proofs.push.Reads as push-reads
-use Rattle.packing.proofs.unpack.Reads as unpack-reads
+use Rattle.adding.proofs.push_in.Statement.{statement}
+use Rattle.adding.proofs.push_in.Tie as tie
 
 -- the columns have room for the rules
 wide-in : (b : tie.Start) → length (b .args .rules .now) * b .args .n ≤ 3072
@@ -78,8 +73,8 @@ returns c =
     let xs = a .rules .now in
     columns-added n xs (b .pre .0) (b .pre .1) (b .pre .2) (k .kind-of .result) (k .kind-of .ensures) (take (length xs * n) (u .unpack .last .1 .1 .0)) (take (length xs) (u .unpack .last .1 .1 .1 .0)) (first-column n xs (a .firsts .now) (u .unpack .last .1 .1 .0) (u .unpack .ensures .0)) (second-column n xs (a .seconds .now) (u .unpack .last .1 .1 .1 .0) (u .unpack .ensures .1)) (a .draft) (a .scratch .now) (a .mask) (a .flags) (q .push .result) (q .push .last .1 .1 .1 .1 .1 .1 .0) (q .push .ensures)
 
-pub push-rules-spec : {M : Type 1} → statement M
-push-rules-spec =
+pub push-in-spec : {M : Type 1} → statement M
+push-in-spec =
     tie.close
     (tie.spec
     unpack-requires

@@ -22,20 +22,20 @@ fn line(
     codes: &[u32],
     widths: &[u8],
     types: &[u8],
-    cats: &[u8],
+    categories: &[u8],
     base: &[u32],
     actions: &mut [u8],
     masks: &mut [u32],
     out: &mut [u8],
 ) -> usize
-    requires { ⌜ Even (length (now types)) (now codes) (now cats) (now base) (now actions) (now masks) ⌝ }
-    ensures { λ r. ⌜ Wrote (now (out .exit)) r ≡ filled (now (out .entry)) (lineText (now (codes .entry)) (now (widths .entry)) (now (types .entry)) (now (cats .entry))) ⌝ }
+    requires { ⌜ Even (length (now types)) (now codes) (now categories) (now base) (now actions) (now masks) ⌝ }
+    ensures { λ r. ⌜ Wrote (now (out .exit)) r ≡ filled (now (out .entry)) (lineText (now (codes .entry)) (now (widths .entry)) (now (types .entry)) (now (categories .entry))) ⌝ }
 {
     let none = [0u8; 0];
     let verdict = lines::join_line(
         codes,
         types,
-        cats,
+        categories,
         &none,
         &none,
         &none,
@@ -59,20 +59,20 @@ fn lined(
     codes: &[u32],
     widths: &[u8],
     types: &[u8],
-    cats: &[u8],
+    categories: &[u8],
     base: &[u32],
     actions: &mut [u8],
     masks: &mut [u32],
     out: &mut [u8],
 ) -> usize
     requires { ⌜ (512 ≤ length (now base)) × (512 ≤ length (now actions)) × (512 ≤ length (now masks)) ⌝ }
-    ensures { λ r. ⌜ Wrote (now (out .exit)) r ≡ filled (now (out .entry)) (linesText n (now (codes .entry)) (now (widths .entry)) (now (types .entry)) (now (cats .entry))) ⌝ }
+    ensures { λ r. ⌜ Wrote (now (out .exit)) r ≡ filled (now (out .entry)) (linesText n (now (codes .entry)) (now (widths .entry)) (now (types .entry)) (now (categories .entry))) ⌝ }
 {
     let most = shorter(
         LIMIT,
         shorter(
             shorter(codes.len(), widths.len()),
-            shorter(types.len(), cats.len()),
+            shorter(types.len(), categories.len()),
         ),
     );
     if n <= most {
@@ -80,7 +80,7 @@ fn lined(
             &codes[..n],
             &widths[..n],
             &types[..n],
-            &cats[..n],
+            &categories[..n],
             &base[..n],
             &mut actions[..n],
             &mut masks[..n],
@@ -91,8 +91,15 @@ fn lined(
 }
 
 // Lends the columns that joining wants, and nothing more.
-fn lend(n: usize, codes: &[u32], widths: &[u8], types: &[u8], cats: &[u8], out: &mut [u8]) -> usize
-    ensures { λ r. ⌜ Wrote (now (out .exit)) r ≡ filled (now (out .entry)) (linesText n (now (codes .entry)) (now (widths .entry)) (now (types .entry)) (now (cats .entry))) ⌝ }
+fn lend(
+    n: usize,
+    codes: &[u32],
+    widths: &[u8],
+    types: &[u8],
+    categories: &[u8],
+    out: &mut [u8],
+) -> usize
+    ensures { λ r. ⌜ Wrote (now (out .exit)) r ≡ filled (now (out .entry)) (linesText n (now (codes .entry)) (now (widths .entry)) (now (types .entry)) (now (categories .entry))) ⌝ }
 {
     let base = [0u32; 512];
     let mut actions = [0u8; 512];
@@ -102,7 +109,7 @@ fn lend(n: usize, codes: &[u32], widths: &[u8], types: &[u8], cats: &[u8], out: 
         codes,
         widths,
         types,
-        cats,
+        categories,
         &base,
         &mut actions,
         &mut masks,
@@ -117,14 +124,14 @@ pub fn answer(
     codes: &[u32],
     widths: &[u8],
     types: &[u8],
-    cats: &[u8],
+    categories: &[u8],
     out: &mut [u8],
 ) -> usize
-    ensures columns { λ r. ⌜ Wrote (now (out .exit)) r ≡ filled (now (out .entry)) (answerText told (now (codes .entry)) (now (widths .entry)) (now (types .entry)) (now (cats .entry))) ⌝ }
-    ensures text { λ r. ⌜ ((text c w t g : List ℕ) → 512 ≤ length c → 512 ≤ length w → 512 ≤ length t → 512 ≤ length g → Close told (now (codes .entry)) (now (widths .entry)) (now (types .entry)) (now (cats .entry)) ≡ whole text c w t g → Wrote (now (out .exit)) r ≡ filled (now (out .entry)) (output text)) ⌝ }
+    ensures columns { λ r. ⌜ Wrote (now (out .exit)) r ≡ filled (now (out .entry)) (answerText told (now (codes .entry)) (now (widths .entry)) (now (types .entry)) (now (categories .entry))) ⌝ }
+    ensures text { λ r. ⌜ ((text c w t g : List ℕ) → 512 ≤ length c → 512 ≤ length w → 512 ≤ length t → 512 ≤ length g → Close told (now (codes .entry)) (now (widths .entry)) (now (types .entry)) (now (categories .entry)) ≡ whole text c w t g → Wrote (now (out .exit)) r ≡ filled (now (out .entry)) (output text)) ⌝ }
 {
     match told {
         Told::Unreadable => printing::unreadable(out),
-        Told::Lines(n) => lend(n, codes, widths, types, cats, out),
+        Told::Lines(n) => lend(n, codes, widths, types, categories, out),
     }
 }

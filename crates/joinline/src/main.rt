@@ -7,7 +7,7 @@ use libc::STDIN_FILENO;
 use libc::STDOUT_FILENO;
 
 // Reads the input to its end, a piece at a time. That it ends is not known, so that the pieces are counted.
-fn read(codes: &mut [u32], widths: &mut [u8], types: &mut [u8], cats: &mut [u8]) -> State {
+fn read(codes: &mut [u32], widths: &mut [u8], types: &mut [u8], categories: &mut [u8]) -> State {
     let mut room = io::buffer();
     let mut s = texts::begin();
     let mut left: u64 = 18446744073709551615;
@@ -16,7 +16,7 @@ fn read(codes: &mut [u32], widths: &mut [u8], types: &mut [u8], cats: &mut [u8])
         if n == 0 {
             return s;
         }
-        s = texts::read_on(s, &room[..n], codes, widths, types, cats);
+        s = texts::read_on(s, &room[..n], codes, widths, types, categories);
         left -= 1;
     }
     s
@@ -29,10 +29,16 @@ fn say(text: &[u8], n: usize) {
     }
 }
 
-fn run(codes: &mut [u32], widths: &mut [u8], types: &mut [u8], cats: &mut [u8], out: &mut [u8]) {
-    let s = read(codes, widths, types, cats);
-    let told = texts::close(s, codes, widths, types, cats);
-    let n = answers::answer(told, codes, widths, types, cats, out);
+fn run(
+    codes: &mut [u32],
+    widths: &mut [u8],
+    types: &mut [u8],
+    categories: &mut [u8],
+    out: &mut [u8],
+) {
+    let s = read(codes, widths, types, categories);
+    let told = texts::close(s, codes, widths, types, categories);
+    let n = answers::answer(told, codes, widths, types, categories, out);
     say(out, n);
 }
 
@@ -41,7 +47,13 @@ fn main() {
     let mut codes = [0u32; 512];
     let mut widths = [0u8; 512];
     let mut types = [0u8; 512];
-    let mut cats = [0u8; 512];
+    let mut categories = [0u8; 512];
     let mut out = [0u8; 8208];
-    run(&mut codes, &mut widths, &mut types, &mut cats, &mut out);
+    run(
+        &mut codes,
+        &mut widths,
+        &mut types,
+        &mut categories,
+        &mut out,
+    );
 }

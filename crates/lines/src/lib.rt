@@ -16,25 +16,25 @@ use refusals::Verdict;
 const CONTEXT_LIMIT: usize = 64;
 
 // Each type is one of the eight, each category one of the thirty.
-fn known_letters(types: &[u8], cats: &[u8]) -> bool
-    ensures { λ r. ⌜ r ≡ knownLetters (lettersOf (now (types .entry)) (now (cats .entry))) ⌝ }
+fn known_letters(types: &[u8], categories: &[u8]) -> bool
+    ensures { λ r. ⌜ r ≡ knownLetters (lettersOf (now (types .entry)) (now (categories .entry))) ⌝ }
 {
-    refusals::within(types, JoiningType::X.0) & refusals::within(cats, Category::ZS.0)
+    refusals::within(types, JoiningType::X.0) & refusals::within(categories, Category::ZS.0)
 }
 
 // The columns of a line are of one length.
 pub fn even_line(
     codes: &[u32],
     types: &[u8],
-    cats: &[u8],
+    categories: &[u8],
     base: &[u32],
     actions: &[u8],
     masks: &[u32],
 ) -> bool
-    ensures { λ r. ⌜ r ≡ evenLine (lineOf (now (codes .entry)) (now (types .entry)) (now (cats .entry)) (now (base .entry)) (now (actions .entry)) (now (masks .entry))) ⌝ }
+    ensures { λ r. ⌜ r ≡ evenLine (lineOf (now (codes .entry)) (now (types .entry)) (now (categories .entry)) (now (base .entry)) (now (actions .entry)) (now (masks .entry))) ⌝ }
 {
     let n = types.len();
-    (n == cats.len())
+    (n == categories.len())
         & ((n == codes.len()) & ((n == base.len()) & ((n == actions.len()) & (n == masks.len()))))
 }
 
@@ -42,16 +42,16 @@ pub fn even_line(
 pub fn refused(
     line_even: bool,
     types: &[u8],
-    cats: &[u8],
+    categories: &[u8],
     pre_types: &[u8],
-    pre_cats: &[u8],
+    pre_categories: &[u8],
     post_types: &[u8],
-    post_cats: &[u8],
+    post_categories: &[u8],
 ) -> Verdict
-    ensures { λ r. ⌜ said r ≡ first (refusalRows «line_even» (lettersOf (now (types .entry)) (now (cats .entry))) (lettersOf (now («pre_types» .entry)) (now («pre_cats» .entry))) (lettersOf (now («post_types» .entry)) (now («post_cats» .entry)))) ⌝ }
+    ensures { λ r. ⌜ said r ≡ first (refusalRows «line_even» (lettersOf (now (types .entry)) (now (categories .entry))) (lettersOf (now («pre_types» .entry)) (now («pre_categories» .entry))) (lettersOf (now («post_types» .entry)) (now («post_categories» .entry)))) ⌝ }
 {
     let even = line_even
-        & ((pre_types.len() == pre_cats.len()) & (post_types.len() == post_cats.len()));
+        & ((pre_types.len() == pre_categories.len()) & (post_types.len() == post_categories.len()));
     if !even {
         return Verdict::Refused(Refusal::Uneven);
     }
@@ -60,8 +60,8 @@ pub fn refused(
     if !short {
         return Verdict::Refused(Refusal::TooLong);
     }
-    let known = known_letters(types, cats)
-        & (known_letters(pre_types, pre_cats) & known_letters(post_types, post_cats));
+    let known = known_letters(types, categories)
+        & (known_letters(pre_types, pre_categories) & known_letters(post_types, post_categories));
     if !known {
         return Verdict::Refused(Refusal::OutOfRange);
     }
@@ -82,27 +82,27 @@ fn settle(mongolian: bool, codes: &[u32], actions: &mut [u8])
 fn join_accepted(
     codes: &[u32],
     types: &[u8],
-    cats: &[u8],
+    categories: &[u8],
     pre_types: &[u8],
-    pre_cats: &[u8],
+    pre_categories: &[u8],
     post_types: &[u8],
-    post_cats: &[u8],
+    post_categories: &[u8],
     base: &[u32],
     features: [u32; 7],
     mongolian: bool,
     actions: &mut [u8],
     masks: &mut [u32],
 )
-    requires { ⌜ refusal (settingOf (now «pre_types») (now «pre_cats») (now «post_types») (now «post_cats») features mongolian) (lineOf (now codes) (now types) (now cats) (now base) (now actions) (now masks)) ≡ 0 ⌝ }
-    ensures { λ _. ⌜ lineOf (now (codes .entry)) (now (types .entry)) (now (cats .entry)) (now (base .entry)) (now (actions .exit)) (now (masks .exit)) ≡ joinedLine (settingOf (now («pre_types» .entry)) (now («pre_cats» .entry)) (now («post_types» .entry)) (now («post_cats» .entry)) features mongolian) (lineOf (now (codes .entry)) (now (types .entry)) (now (cats .entry)) (now (base .entry)) (now (actions .entry)) (now (masks .entry))) ⌝ }
+    requires { ⌜ refusal (settingOf (now «pre_types») (now «pre_categories») (now «post_types») (now «post_categories») features mongolian) (lineOf (now codes) (now types) (now categories) (now base) (now actions) (now masks)) ≡ 0 ⌝ }
+    ensures { λ _. ⌜ lineOf (now (codes .entry)) (now (types .entry)) (now (categories .entry)) (now (base .entry)) (now (actions .exit)) (now (masks .exit)) ≡ joinedLine (settingOf (now («pre_types» .entry)) (now («pre_categories» .entry)) (now («post_types» .entry)) (now («post_categories» .entry)) features mongolian) (lineOf (now (codes .entry)) (now (types .entry)) (now (categories .entry)) (now (base .entry)) (now (actions .entry)) (now (masks .entry))) ⌝ }
 {
     joining::arabic_joining(
         types,
-        cats,
+        categories,
         pre_types,
-        pre_cats,
+        pre_categories,
         post_types,
-        post_cats,
+        post_categories,
         actions,
     );
     settle(mongolian, codes, actions);
@@ -113,28 +113,28 @@ fn join_accepted(
 pub fn join_line(
     codes: &[u32],
     types: &[u8],
-    cats: &[u8],
+    categories: &[u8],
     pre_types: &[u8],
-    pre_cats: &[u8],
+    pre_categories: &[u8],
     post_types: &[u8],
-    post_cats: &[u8],
+    post_categories: &[u8],
     base: &[u32],
     features: [u32; 7],
     mongolian: bool,
     actions: &mut [u8],
     masks: &mut [u32],
 ) -> Verdict
-    ensures { λ r. ⌜ Joining (settingOf (now («pre_types» .entry)) (now («pre_cats» .entry)) (now («post_types» .entry)) (now («post_cats» .entry)) features mongolian) (lineOf (now (codes .entry)) (now (types .entry)) (now (cats .entry)) (now (base .entry)) (now (actions .entry)) (now (masks .entry))) r (lineOf (now (codes .entry)) (now (types .entry)) (now (cats .entry)) (now (base .entry)) (now (actions .exit)) (now (masks .exit))) ⌝ }
+    ensures { λ r. ⌜ Joining (settingOf (now («pre_types» .entry)) (now («pre_categories» .entry)) (now («post_types» .entry)) (now («post_categories» .entry)) features mongolian) (lineOf (now (codes .entry)) (now (types .entry)) (now (categories .entry)) (now (base .entry)) (now (actions .entry)) (now (masks .entry))) r (lineOf (now (codes .entry)) (now (types .entry)) (now (categories .entry)) (now (base .entry)) (now (actions .exit)) (now (masks .exit))) ⌝ }
 {
-    let line_even = even_line(codes, types, cats, base, actions, masks);
+    let line_even = even_line(codes, types, categories, base, actions, masks);
     let verdict = refused(
         line_even,
         types,
-        cats,
+        categories,
         pre_types,
-        pre_cats,
+        pre_categories,
         post_types,
-        post_cats,
+        post_categories,
     );
     if verdict.number() != 0 {
         return verdict;
@@ -142,11 +142,11 @@ pub fn join_line(
     join_accepted(
         codes,
         types,
-        cats,
+        categories,
         pre_types,
-        pre_cats,
+        pre_categories,
         post_types,
-        post_cats,
+        post_categories,
         base,
         features,
         mongolian,

@@ -13,14 +13,14 @@ pub struct Neighbour {
 }
 
 // The nearest letter before place `k`; `before` stands before the line.
-pub fn letter_before(types: &[u8], cats: &[u8], k: usize, before: u8) -> Neighbour
-    requires { ⌜ Joinable (now types) (now cats) ⌝ }
+pub fn letter_before(types: &[u8], categories: &[u8], k: usize, before: u8) -> Neighbour
+    requires { ⌜ Joinable (now types) (now categories) ⌝ }
     requires { ⌜ k ≤ length (now types) ⌝ }
-    ensures { λ r. ⌜ StandsBefore (lineTypes (now (types .entry)) (now (cats .entry))) k before r ⌝ }
+    ensures { λ r. ⌜ StandsBefore (lineTypes (now (types .entry)) (now (categories .entry))) k before r ⌝ }
 {
     let mut i = k;
     while 0 < i {
-        let prev_type = joining::type_at(types, cats, i - 1);
+        let prev_type = joining::type_at(types, categories, i - 1);
         if prev_type != JoiningType::T.0 {
             return Neighbour {
                 place: i - 1,
@@ -36,14 +36,14 @@ pub fn letter_before(types: &[u8], cats: &[u8], k: usize, before: u8) -> Neighbo
 }
 
 // The nearest letter from place `k` on; `behind` stands behind the line.
-pub fn letter_from(types: &[u8], cats: &[u8], k: usize, behind: u8) -> Neighbour
-    requires { ⌜ Joinable (now types) (now cats) ⌝ }
+pub fn letter_from(types: &[u8], categories: &[u8], k: usize, behind: u8) -> Neighbour
+    requires { ⌜ Joinable (now types) (now categories) ⌝ }
     requires { ⌜ k ≤ length (now types) ⌝ }
-    ensures { λ r. ⌜ StandsFrom (lineTypes (now (types .entry)) (now (cats .entry))) k behind r ⌝ }
+    ensures { λ r. ⌜ StandsFrom (lineTypes (now (types .entry)) (now (categories .entry))) k behind r ⌝ }
 {
     let mut i = k;
     while i < types.len() {
-        let next_type = joining::type_at(types, cats, i);
+        let next_type = joining::type_at(types, categories, i);
         if next_type != JoiningType::T.0 {
             return Neighbour {
                 place: i,

@@ -70,15 +70,15 @@ module _ (m : Bool) (cs : List ℕ) (b : ℕ) (ts : List ℕ) (a : ℕ) where
       go false f h = let e : j ≡ k = omega arith in rw e refl
 
 -- of the columns that the walks read
-module _ {types cats : List ℕ} (letters : Joinable types cats) (m : Bool) (cs : List ℕ) (b a k : ℕ) (l : k < length types) where
+module _ {types categories : List ℕ} (letters : Joinable types categories) (m : Bool) (cs : List ℕ) (b a k : ℕ) (l : k < length types) where
   -- the letters p and n stand beside the home of k
   pub fresh-form :
-      (h p t n v : ℕ) → h ≡ cond m (base cs k) k → t ≡ resolved (getD types h 0) (getD cats h 0) → p ≡ latest b (take h (lineTypes types cats))
-      → n ≡ nearest (drop (h + 1) (lineTypes types cats)) a → v ≡ form p t n → v ≡ getD (actionsBetween m cs b (lineTypes types cats) a) k 0
+      (h p t n v : ℕ) → h ≡ cond m (base cs k) k → t ≡ resolved (getD types h 0) (getD categories h 0) → p ≡ latest b (take h (lineTypes types categories))
+      → n ≡ nearest (drop (h + 1) (lineTypes types categories)) a → v ≡ form p t n → v ≡ getD (actionsBetween m cs b (lineTypes types categories) a) k 0
   fresh-form h p t n v e et ep en ev =
-      let ts = lineTypes types cats in
-      let size = length-lineTypes types cats (letters .even) in
+      let ts = lineTypes types categories in
+      let size = length-lineTypes types categories (letters .even) in
       let under : h < length types = omega (arith, home-below m cs k h e) in
       ev
-      ∙ rw (ep, et, en, ← lineTypes-at types cats h (letters .even) under, add-one)
+      ∙ rw (ep, et, en, ← lineTypes-at types categories h (letters .even) under, add-one)
       (sym (fresh-home m cs b ts a k h e (omega arith) ∙ each-at form b ts a h (omega arith)))

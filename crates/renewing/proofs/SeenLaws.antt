@@ -20,15 +20,15 @@ use Rattle.joining.specs.Joinable.{Joinable}
 pub seen-beyond : (k n r x y : ℕ) → r ≡ cond (ltb k n) x y → k < n → r ≡ x
 seen-beyond k n r x y e h = e ∙ simp (lt-ltb k n h)
 
-module _ {types cats : List ℕ} (letters : Joinable types cats) (k t : ℕ) (h : k < length types) (e : t ≡ resolved (getD types k 0) (getD cats k 0)) where
+module _ {types categories : List ℕ} (letters : Joinable types categories) (k t : ℕ) (h : k < length types) (e : t ≡ resolved (getD types k 0) (getD categories k 0)) where
   abbrev ts : List ℕ
-  ts = lineTypes types cats
+  ts = lineTypes types categories
 
   here : getD ts k 0 ≡ t
-  here = lineTypes-at types cats k (letters .even) h ∙ sym e
+  here = lineTypes-at types categories k (letters .even) h ∙ sym e
 
   size : length ts ≡ length types
-  size = length-lineTypes types cats (letters .even)
+  size = length-lineTypes types categories (letters .even)
 
   -- q sees t or, past it, the letter n
   pub seen-ahead :

@@ -42,7 +42,7 @@ fn reach_end(mongolian: bool, codes: &[u32], k: usize) -> usize
 fn fresh_action(
     codes: &[u32],
     types: &[u8],
-    cats: &[u8],
+    categories: &[u8],
     before: u8,
     behind: u8,
     mongolian: bool,
@@ -50,18 +50,18 @@ fn fresh_action(
     p: u8,
     n: u8,
 ) -> Action
-    requires { ⌜ Joinable (now types) (now cats) ⌝ }
+    requires { ⌜ Joinable (now types) (now categories) ⌝ }
     requires { ⌜ (length (now codes) ≡ length (now types)) × (k < length (now types)) ⌝ }
-    requires { ⌜ (p ≡ latest before (take k (lineTypes (now types) (now cats)))) × (n ≡ nearest (drop (k + 1) (lineTypes (now types) (now cats))) behind) ⌝ }
-    ensures { λ r. ⌜ r .0 ≡ getD (actionsBetween mongolian (now (codes .entry)) before (lineTypes (now (types .entry)) (now (cats .entry))) behind) k 0 ⌝ }
+    requires { ⌜ (p ≡ latest before (take k (lineTypes (now types) (now categories)))) × (n ≡ nearest (drop (k + 1) (lineTypes (now types) (now categories))) behind) ⌝ }
+    ensures { λ r. ⌜ r .0 ≡ getD (actionsBetween mongolian (now (codes .entry)) before (lineTypes (now (types .entry)) (now (categories .entry))) behind) k 0 ⌝ }
 {
     let at = home(mongolian, codes, k);
-    let t = joining::type_at(types, cats, at);
+    let t = joining::type_at(types, categories, at);
     if at == k {
         return shapes::form_of(JoiningType(p), JoiningType(t), JoiningType(n));
     }
-    let q = neighbours::letter_before(types, cats, at, before);
-    let m = neighbours::letter_from(types, cats, at + 1, behind);
+    let q = neighbours::letter_before(types, categories, at, before);
+    let m = neighbours::letter_from(types, categories, at + 1, behind);
     shapes::form_of(JoiningType(q.letter), JoiningType(t), JoiningType(m.letter))
 }
 
@@ -93,7 +93,7 @@ fn put(
 fn renew(
     codes: &[u32],
     types: &[u8],
-    cats: &[u8],
+    categories: &[u8],
     before: u8,
     behind: u8,
     base: &[u32],
@@ -105,37 +105,37 @@ fn renew(
     actions: &mut [u8],
     masks: &mut [u32],
 )
-    requires { ⌜ Renewable (frameBy before behind (now features) mongolian) (lineOf (now codes) (now types) (now cats) (now base) (now actions) (now masks)) ⌝ }
-    requires { ⌜ (k < length (now types) → p ≡ latest before (take k (lineTypes (now types) (now cats)))) ⌝ }
-    requires { ⌜ (k < length (now types) → n ≡ nearest (drop (k + 1) (lineTypes (now types) (now cats))) behind) ⌝ }
-    ensures { λ _. ⌜ lineOf (now (codes .entry)) (now (types .entry)) (now (cats .entry)) (now (base .entry)) (now (actions .exit)) (now (masks .exit)) ≡ renewedLine (frameBy before behind (now (features .entry)) mongolian) (reached mongolian (now (codes .entry)) k) (lineOf (now (codes .entry)) (now (types .entry)) (now (cats .entry)) (now (base .entry)) (now (actions .entry)) (now (masks .entry))) ⌝ }
+    requires { ⌜ Renewable (frameBy before behind (now features) mongolian) (lineOf (now codes) (now types) (now categories) (now base) (now actions) (now masks)) ⌝ }
+    requires { ⌜ (k < length (now types) → p ≡ latest before (take k (lineTypes (now types) (now categories)))) ⌝ }
+    requires { ⌜ (k < length (now types) → n ≡ nearest (drop (k + 1) (lineTypes (now types) (now categories))) behind) ⌝ }
+    ensures { λ _. ⌜ lineOf (now (codes .entry)) (now (types .entry)) (now (categories .entry)) (now (base .entry)) (now (actions .exit)) (now (masks .exit)) ≡ renewedLine (frameBy before behind (now (features .entry)) mongolian) (reached mongolian (now (codes .entry)) k) (lineOf (now (codes .entry)) (now (types .entry)) (now (categories .entry)) (now (base .entry)) (now (actions .entry)) (now (masks .entry))) ⌝ }
 {
     if k < types.len() {
-        let action = fresh_action(codes, types, cats, before, behind, mongolian, k, p, n);
+        let action = fresh_action(codes, types, categories, before, behind, mongolian, k, p, n);
         let end = reach_end(mongolian, codes, k);
         put(base, features, k, end, action, actions, masks);
     }
 }
 
 // The nearest letter before the record at `k`; where there is no such record, the one before the line, and nothing is walked.
-fn further_before(types: &[u8], cats: &[u8], k: usize, before: u8) -> u8
-    requires { ⌜ Joinable (now types) (now cats) ⌝ }
-    ensures { λ r. ⌜ r ≡ cond (ltb k (length (now (types .entry)))) (latest before (take k (lineTypes (now (types .entry)) (now (cats .entry))))) before ⌝ }
+fn further_before(types: &[u8], categories: &[u8], k: usize, before: u8) -> u8
+    requires { ⌜ Joinable (now types) (now categories) ⌝ }
+    ensures { λ r. ⌜ r ≡ cond (ltb k (length (now (types .entry)))) (latest before (take k (lineTypes (now (types .entry)) (now (categories .entry))))) before ⌝ }
 {
     if k < types.len() {
-        let q = neighbours::letter_before(types, cats, k, before);
+        let q = neighbours::letter_before(types, categories, k, before);
         return q.letter;
     }
     before
 }
 
 // The nearest letter behind the record at `k`; where there is no such record, the one behind the line.
-fn further_behind(types: &[u8], cats: &[u8], k: usize, behind: u8) -> u8
-    requires { ⌜ Joinable (now types) (now cats) ⌝ }
-    ensures { λ r. ⌜ r ≡ cond (ltb k (length (now (types .entry)))) (nearest (drop (k + 1) (lineTypes (now (types .entry)) (now (cats .entry)))) behind) behind ⌝ }
+fn further_behind(types: &[u8], categories: &[u8], k: usize, behind: u8) -> u8
+    requires { ⌜ Joinable (now types) (now categories) ⌝ }
+    ensures { λ r. ⌜ r ≡ cond (ltb k (length (now (types .entry)))) (nearest (drop (k + 1) (lineTypes (now (types .entry)) (now (categories .entry)))) behind) behind ⌝ }
 {
     if k < types.len() {
-        let n = neighbours::letter_from(types, cats, k + 1, behind);
+        let n = neighbours::letter_from(types, categories, k + 1, behind);
         return n.letter;
     }
     behind
@@ -155,7 +155,7 @@ fn past(far: u8, t: u8) -> u8
 pub fn refresh(
     codes: &[u32],
     types: &[u8],
-    cats: &[u8],
+    categories: &[u8],
     before: u8,
     behind: u8,
     base: &[u32],
@@ -165,22 +165,22 @@ pub fn refresh(
     actions: &mut [u8],
     masks: &mut [u32],
 )
-    requires { ⌜ Renewable (frameBy before behind (now features) mongolian) (lineOf (now codes) (now types) (now cats) (now base) (now actions) (now masks)) ⌝ }
+    requires { ⌜ Renewable (frameBy before behind (now features) mongolian) (lineOf (now codes) (now types) (now categories) (now base) (now actions) (now masks)) ⌝ }
     requires { ⌜ k < length (now types) ⌝ }
-    ensures { λ _. ⌜ lineOf (now (codes .entry)) (now (types .entry)) (now (cats .entry)) (now (base .entry)) (now (actions .exit)) (now (masks .exit)) ≡ renewedLine (frameBy before behind (now (features .entry)) mongolian) (touched (frameBy before behind (now (features .entry)) mongolian) (lineOf (now (codes .entry)) (now (types .entry)) (now (cats .entry)) (now (base .entry)) (now (actions .entry)) (now (masks .entry))) k) (lineOf (now (codes .entry)) (now (types .entry)) (now (cats .entry)) (now (base .entry)) (now (actions .entry)) (now (masks .entry))) ⌝ }
+    ensures { λ _. ⌜ lineOf (now (codes .entry)) (now (types .entry)) (now (categories .entry)) (now (base .entry)) (now (actions .exit)) (now (masks .exit)) ≡ renewedLine (frameBy before behind (now (features .entry)) mongolian) (touched (frameBy before behind (now (features .entry)) mongolian) (lineOf (now (codes .entry)) (now (types .entry)) (now (categories .entry)) (now (base .entry)) (now (actions .entry)) (now (masks .entry))) k) (lineOf (now (codes .entry)) (now (types .entry)) (now (categories .entry)) (now (base .entry)) (now (actions .entry)) (now (masks .entry))) ⌝ }
 {
-    let t = joining::type_at(types, cats, k);
-    let q = neighbours::letter_before(types, cats, k, before);
-    let n = neighbours::letter_from(types, cats, k + 1, behind);
-    let back = further_before(types, cats, q.place, before);
-    let ahead = further_behind(types, cats, n.place, behind);
+    let t = joining::type_at(types, categories, k);
+    let q = neighbours::letter_before(types, categories, k, before);
+    let n = neighbours::letter_from(types, categories, k + 1, behind);
+    let back = further_before(types, categories, q.place, before);
+    let ahead = further_behind(types, categories, n.place, behind);
     // past the new letter, if it is transparent, the letters beside it see each other
     let seen_back = past(q.letter, t);
     let seen_ahead = past(n.letter, t);
     renew(
         codes,
         types,
-        cats,
+        categories,
         before,
         behind,
         base,
@@ -195,7 +195,7 @@ pub fn refresh(
     renew(
         codes,
         types,
-        cats,
+        categories,
         before,
         behind,
         base,
@@ -210,7 +210,7 @@ pub fn refresh(
     renew(
         codes,
         types,
-        cats,
+        categories,
         before,
         behind,
         base,

@@ -18,11 +18,11 @@ use refusals::Verdict;
 fn replace_accepted(
     codes: &mut [u32],
     types: &mut [u8],
-    cats: &mut [u8],
+    categories: &mut [u8],
     pre_types: &[u8],
-    pre_cats: &[u8],
+    pre_categories: &[u8],
     post_types: &[u8],
-    post_cats: &[u8],
+    post_categories: &[u8],
     base: &[u32],
     features: [u32; 7],
     mongolian: bool,
@@ -33,18 +33,18 @@ fn replace_accepted(
     joining_type: JoiningType,
     category: Category,
 )
-    requires { ⌜ replaceRefusal (settingOf (now «pre_types») (now «pre_cats») (now «post_types») (now «post_cats») features mongolian) (requestOf place (code .0) («joining_type» .0) (category .0)) (lineOf (now codes) (now types) (now cats) (now base) (now actions) (now masks)) ≡ 0 ⌝ }
-    ensures { λ _. ⌜ lineOf (now (codes .exit)) (now (types .exit)) (now (cats .exit)) (now (base .entry)) (now (actions .exit)) (now (masks .exit)) ≡ replacedLine (frameOf (settingOf (now («pre_types» .entry)) (now («pre_cats» .entry)) (now («post_types» .entry)) (now («post_cats» .entry)) features mongolian)) (requestOf place (code .0) («joining_type» .0) (category .0)) (lineOf (now (codes .entry)) (now (types .entry)) (now (cats .entry)) (now (base .entry)) (now (actions .entry)) (now (masks .entry))) ⌝ }
+    requires { ⌜ replaceRefusal (settingOf (now «pre_types») (now «pre_categories») (now «post_types») (now «post_categories») features mongolian) (requestOf place (code .0) («joining_type» .0) (category .0)) (lineOf (now codes) (now types) (now categories) (now base) (now actions) (now masks)) ≡ 0 ⌝ }
+    ensures { λ _. ⌜ lineOf (now (codes .exit)) (now (types .exit)) (now (categories .exit)) (now (base .entry)) (now (actions .exit)) (now (masks .exit)) ≡ replacedLine (frameOf (settingOf (now («pre_types» .entry)) (now («pre_categories» .entry)) (now («post_types» .entry)) (now («post_categories» .entry)) features mongolian)) (requestOf place (code .0) («joining_type» .0) (category .0)) (lineOf (now (codes .entry)) (now (types .entry)) (now (categories .entry)) (now (base .entry)) (now (actions .entry)) (now (masks .entry))) ⌝ }
 {
     codes[place] = code.0;
     types[place] = joining_type.0;
-    cats[place] = category.0;
-    let before = joining::first_letter(pre_types, pre_cats);
-    let behind = joining::first_letter(post_types, post_cats);
+    categories[place] = category.0;
+    let before = joining::first_letter(pre_types, pre_categories);
+    let behind = joining::first_letter(post_types, post_categories);
     renewing::refresh(
         codes,
         types,
-        cats,
+        categories,
         before,
         behind,
         base,
@@ -61,11 +61,11 @@ fn replace_accepted(
 fn refused(
     codes: &[u32],
     types: &[u8],
-    cats: &[u8],
+    categories: &[u8],
     pre_types: &[u8],
-    pre_cats: &[u8],
+    pre_categories: &[u8],
     post_types: &[u8],
-    post_cats: &[u8],
+    post_categories: &[u8],
     base: &[u32],
     actions: &[u8],
     masks: &[u32],
@@ -73,17 +73,17 @@ fn refused(
     joining_type: JoiningType,
     category: Category,
 ) -> Verdict
-    ensures { λ r. ⌜ said r ≡ first (replaceRows (settingOf (now («pre_types» .entry)) (now («pre_cats» .entry)) (now («post_types» .entry)) (now («post_cats» .entry)) [] false) (requestOf place 0 («joining_type» .0) (category .0)) (lineOf (now (codes .entry)) (now (types .entry)) (now (cats .entry)) (now (base .entry)) (now (actions .entry)) (now (masks .entry)))) ⌝ }
+    ensures { λ r. ⌜ said r ≡ first (replaceRows (settingOf (now («pre_types» .entry)) (now («pre_categories» .entry)) (now («post_types» .entry)) (now («post_categories» .entry)) [] false) (requestOf place 0 («joining_type» .0) (category .0)) (lineOf (now (codes .entry)) (now (types .entry)) (now (categories .entry)) (now (base .entry)) (now (actions .entry)) (now (masks .entry)))) ⌝ }
 {
-    let line_even = lines::even_line(codes, types, cats, base, actions, masks);
+    let line_even = lines::even_line(codes, types, categories, base, actions, masks);
     let line = lines::refused(
         line_even,
         types,
-        cats,
+        categories,
         pre_types,
-        pre_cats,
+        pre_categories,
         post_types,
-        post_cats,
+        post_categories,
     );
     let known = refusals::within(actions, Action::REPEATING.0)
         & ((joining_type.0 <= JoiningType::X.0) & (category.0 <= Category::ZS.0));
@@ -97,11 +97,11 @@ fn refused(
 pub fn replace_letter(
     codes: &mut [u32],
     types: &mut [u8],
-    cats: &mut [u8],
+    categories: &mut [u8],
     pre_types: &[u8],
-    pre_cats: &[u8],
+    pre_categories: &[u8],
     post_types: &[u8],
-    post_cats: &[u8],
+    post_categories: &[u8],
     base: &[u32],
     features: [u32; 7],
     mongolian: bool,
@@ -112,16 +112,16 @@ pub fn replace_letter(
     joining_type: JoiningType,
     category: Category,
 ) -> Verdict
-    ensures { λ r. ⌜ Replacing (settingOf (now («pre_types» .entry)) (now («pre_cats» .entry)) (now («post_types» .entry)) (now («post_cats» .entry)) features mongolian) (requestOf place (code .0) («joining_type» .0) (category .0)) (lineOf (now (codes .entry)) (now (types .entry)) (now (cats .entry)) (now (base .entry)) (now (actions .entry)) (now (masks .entry))) r (lineOf (now (codes .exit)) (now (types .exit)) (now (cats .exit)) (now (base .entry)) (now (actions .exit)) (now (masks .exit))) ⌝ }
+    ensures { λ r. ⌜ Replacing (settingOf (now («pre_types» .entry)) (now («pre_categories» .entry)) (now («post_types» .entry)) (now («post_categories» .entry)) features mongolian) (requestOf place (code .0) («joining_type» .0) (category .0)) (lineOf (now (codes .entry)) (now (types .entry)) (now (categories .entry)) (now (base .entry)) (now (actions .entry)) (now (masks .entry))) r (lineOf (now (codes .exit)) (now (types .exit)) (now (categories .exit)) (now (base .entry)) (now (actions .exit)) (now (masks .exit))) ⌝ }
 {
     let verdict = refused(
         codes,
         types,
-        cats,
+        categories,
         pre_types,
-        pre_cats,
+        pre_categories,
         post_types,
-        post_cats,
+        post_categories,
         base,
         actions,
         masks,
@@ -135,11 +135,11 @@ pub fn replace_letter(
     replace_accepted(
         codes,
         types,
-        cats,
+        categories,
         pre_types,
-        pre_cats,
+        pre_categories,
         post_types,
-        post_cats,
+        post_categories,
         base,
         features,
         mongolian,

@@ -14,23 +14,23 @@ fn replay(body: &[u8]) -> Outcome {
     let mongolian = columns::view_u8(body, &mut at, 1);
     let given = columns::take_u32(body, &mut at, &mut features).len();
     let pre_types = columns::view_u8(body, &mut at, 80);
-    let pre_cats = columns::view_u8(body, &mut at, 80);
+    let pre_categories = columns::view_u8(body, &mut at, 80);
     let post_types = columns::view_u8(body, &mut at, 80);
-    let post_cats = columns::view_u8(body, &mut at, 80);
+    let post_categories = columns::view_u8(body, &mut at, 80);
     let codes = columns::take_u32(body, &mut at, &mut codes_room);
     let types = columns::view_u8(body, &mut at, 4200);
-    let cats = columns::view_u8(body, &mut at, 4200);
+    let categories = columns::view_u8(body, &mut at, 4200);
     let base = columns::take_u32(body, &mut at, &mut base_room);
     let actions = columns::take_u8(body, &mut at, &mut actions_room);
     let masks = columns::take_u32(body, &mut at, &mut masks_room);
     let verdict = lines::join_line(
         codes,
         types,
-        cats,
+        categories,
         pre_types,
-        pre_cats,
+        pre_categories,
         post_types,
-        post_cats,
+        post_categories,
         base,
         features,
         cases::first_u8(mongolian) == 1,

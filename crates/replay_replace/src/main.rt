@@ -13,7 +13,7 @@ fn replay(body: &[u8]) -> Outcome {
     let mut features = [0u32; 7];
     let mut codes_room = [0u32; 4200];
     let mut types_room = [0u8; 4200];
-    let mut cats_room = [0u8; 4200];
+    let mut categories_room = [0u8; 4200];
     let mut base_room = [0u32; 4200];
     let mut actions_room = [0u8; 4200];
     let mut masks_room = [0u32; 4200];
@@ -22,12 +22,12 @@ fn replay(body: &[u8]) -> Outcome {
     let mongolian = columns::view_u8(body, &mut at, 1);
     let given = columns::take_u32(body, &mut at, &mut features).len();
     let pre_types = columns::view_u8(body, &mut at, 80);
-    let pre_cats = columns::view_u8(body, &mut at, 80);
+    let pre_categories = columns::view_u8(body, &mut at, 80);
     let post_types = columns::view_u8(body, &mut at, 80);
-    let post_cats = columns::view_u8(body, &mut at, 80);
+    let post_categories = columns::view_u8(body, &mut at, 80);
     let codes = columns::take_u32(body, &mut at, &mut codes_room);
     let types = columns::take_u8(body, &mut at, &mut types_room);
-    let cats = columns::take_u8(body, &mut at, &mut cats_room);
+    let categories = columns::take_u8(body, &mut at, &mut categories_room);
     let base = columns::take_u32(body, &mut at, &mut base_room);
     let actions = columns::take_u8(body, &mut at, &mut actions_room);
     let masks = columns::take_u32(body, &mut at, &mut masks_room);
@@ -38,11 +38,11 @@ fn replay(body: &[u8]) -> Outcome {
     let verdict = replacing::replace_letter(
         codes,
         types,
-        cats,
+        categories,
         pre_types,
-        pre_cats,
+        pre_categories,
         post_types,
-        post_cats,
+        post_categories,
         base,
         features,
         cases::first_u8(mongolian) == 1,
@@ -56,7 +56,7 @@ fn replay(body: &[u8]) -> Outcome {
     let number = cases::same_u8(body, &mut at, &[verdict.number()]);
     let coded = cases::same_u32(body, &mut at, codes);
     let typed = cases::same_u8(body, &mut at, types);
-    let sorted = cases::same_u8(body, &mut at, cats);
+    let sorted = cases::same_u8(body, &mut at, categories);
     let acted = cases::same_u8(body, &mut at, actions);
     let masked = cases::same_u32(body, &mut at, masks);
     let singles = (places == 1)

@@ -23,7 +23,7 @@ same-length c = search needs
 returns : tie.Need-returns
 returns c =
     let a = c .before .before .before .before .before .before .before .before .before .before .before .args in
-    answered (a .told) (a .codes .now) (a .widths .now) (a .types .now) (a .cats .now) (a .out .now) (rw (c .before .before .before .before .enum-told .given .1) (c .before .before .unreadable .ensures))
+    answered (a .told) (a .codes .now) (a .widths .now) (a .types .now) (a .categories .now) (a .out .now) (rw (c .before .before .before .before .enum-told .given .1) (c .before .before .unreadable .ensures))
 
 same-length-2 : tie.Need-same-length-2
 same-length-2 c = search needs
@@ -31,7 +31,7 @@ same-length-2 c = search needs
 returns-2 : tie.Need-returns-2
 returns-2 c =
     let a = c .before .before .before .before .before .before .before .before .before .before .before .before .args in
-    answered (a .told) (a .codes .now) (a .widths .now) (a .types .now) (a .cats .now) (a .out .now) (rw (c .before .before .before .before .before .told .given .1) (c .before .before .lend .ensures))
+    answered (a .told) (a .codes .now) (a .widths .now) (a .types .now) (a .categories .now) (a .out .now) (rw (c .before .before .before .before .before .told .given .1) (c .before .before .lend .ensures))
 
 pub answer-spec : {M : Type 1} → statement M
 answer-spec =

@@ -44,7 +44,7 @@ returns c =
     let n = c .before .before .before .before .before .number in
     c .before .before .refused .ensures
     ∙ ap (filled (a .out .now))
-    (line-refused (a .codes .now) (a .widths .now) (a .types .now) (a .cats .now) (a .base .now) (a .actions .now) (a .masks .now) (k .pre) (n .result) _ _ (n .ensures)
+    (line-refused (a .codes .now) (a .widths .now) (a .types .now) (a .categories .now) (a .base .now) (a .actions .now) (a .masks .now) (k .pre) (n .result) _ _ (n .ensures)
     (c .before .before .before .before .before .before .before .before .before .before .join-line .ensures)
     (c .before .before .before .before .if1 .taken))
 
@@ -67,7 +67,7 @@ returns-2 c =
     let n = c .before .before .before .before .before .before .number in
     c .before .before .print .ensures
     ∙ ap (filled (a .out .now))
-    (line-accepted (a .codes .now) (a .widths .now) (a .types .now) (a .cats .now) (a .base .now) (a .actions .now) (a .masks .now) (k .pre) (n .result) _ _ (n .ensures)
+    (line-accepted (a .codes .now) (a .widths .now) (a .types .now) (a .categories .now) (a .base .now) (a .actions .now) (a .masks .now) (k .pre) (n .result) _ _ (n .ensures)
     (c .before .before .before .before .before .before .before .before .before .before .before .join-line .ensures)
     (c .before .before .before .before .before .if1 .left))
 

@@ -12,17 +12,17 @@ use Rattle.answers.proofs.lined.Statement.{statement}
 use Rattle.answers.proofs.lined.Tie as tie
 
 -- what was found out of the columns
-roomy : (c : tie.After-shorter4) → let a = c .before .before .before .before .before .before .before .before .before .before .before .before .args in c .shorter4 .result ≡ room (a .codes .now) (a .widths .now) (a .types .now) (a .cats .now)
+roomy : (c : tie.After-shorter4) → let a = c .before .before .before .before .before .before .before .before .before .before .before .before .args in c .shorter4 .result ≡ room (a .codes .now) (a .widths .now) (a .types .now) (a .categories .now)
 roomy c =
     rw (c .shorter4 .ensures, c .before .shorter3 .ensures, c .before .before .shorter2 .ensures, c .before .before .before .shorter .ensures)
 
-few : (c : tie.Then1) → let a = c .before .before .before .before .before .before .before .before .before .before .before .before .before .args in a .n ≤ room (a .codes .now) (a .widths .now) (a .types .now) (a .cats .now)
+few : (c : tie.Then1) → let a = c .before .before .before .before .before .before .before .before .before .before .before .before .before .args in a .n ≤ room (a .codes .now) (a .widths .now) (a .types .now) (a .categories .now)
 few c = rw (← (roomy (c .before))) (c .if1 .taken)
 
-holds : (c : tie.Then1) → let a = c .before .before .before .before .before .before .before .before .before .before .before .before .before .args in Holds (a .n) (a .codes .now) (a .widths .now) (a .types .now) (a .cats .now)
+holds : (c : tie.Then1) → let a = c .before .before .before .before .before .before .before .before .before .before .before .before .before .args in Holds (a .n) (a .codes .now) (a .widths .now) (a .types .now) (a .categories .now)
 holds c =
     let a = c .before .before .before .before .before .before .before .before .before .before .before .before .before .args in
-    room-holds (a .n) (a .codes .now) (a .widths .now) (a .types .now) (a .cats .now) (few c)
+    room-holds (a .n) (a .codes .now) (a .widths .now) (a .types .now) (a .categories .now) (few c)
 
 shorter-requires : tie.Need-shorter-requires
 shorter-requires c κs = search needs
@@ -54,7 +54,7 @@ slice-aggregate-line-3 c =
 slice-aggregate-line-4 : tie.Need-slice-aggregate-line-4
 slice-aggregate-line-4 c =
     let a = c .before .before .before .before .before .before .before .before .before .before .before .before .before .before .before .before .before .args in
-    sym (length-take-le (a .n) (a .cats .now) (holds (c .before .before .before .before) .categories))
+    sym (length-take-le (a .n) (a .categories .now) (holds (c .before .before .before .before) .categories))
 
 slice-aggregate-line-5 : tie.Need-slice-aggregate-line-5
 slice-aggregate-line-5 c =
@@ -81,7 +81,7 @@ line-requires : tie.Need-line-requires
 line-requires c κs =
     let k = c .before .before .before .before .before .before .before .before .before .before .before .before .before .before .before .before .before .before .before .before .before in
     let a = k .args in
-    even-front (a .n) (a .codes .now) (a .widths .now) (a .types .now) (a .cats .now) (a .base .now) (a .actions .now) (a .masks .now) (holds (c .before .before .before .before .before .before .before .before)) (k .pre .0) (k .pre .1) (k .pre .2)
+    even-front (a .n) (a .codes .now) (a .widths .now) (a .types .now) (a .categories .now) (a .base .now) (a .actions .now) (a .masks .now) (holds (c .before .before .before .before .before .before .before .before)) (k .pre .0) (k .pre .1) (k .pre .2)
 
 same-length : tie.Need-same-length
 same-length c = search needs

@@ -7,11 +7,11 @@ use Rattle.joinline.proofs.read.Statement.{statement}
 use Rattle.joinline.proofs.read.Tie as tie
 
 abbrev Inv-loop : tie.InvT-loop
-Inv-loop codes₀ widths₀ types₀ cats₀ room₀ s₀ left₀ codes widths types cats room s left =
-    (length codes ≡ length codes₀) × (length widths ≡ length widths₀) × (length types ≡ length types₀) × (length cats ≡ length cats₀) × (4096 ≡ length room)
+Inv-loop codes₀ widths₀ types₀ categories₀ room₀ s₀ left₀ codes widths types categories room s left =
+    (length codes ≡ length codes₀) × (length widths ≡ length widths₀) × (length types ≡ length types₀) × (length categories ≡ length categories₀) × (4096 ≡ length room)
 
 abbrev μ-loop : tie.MeasureT-loop
-μ-loop codes₀ widths₀ types₀ cats₀ room₀ s₀ left₀ codes widths types cats room s left = left
+μ-loop codes₀ widths₀ types₀ categories₀ room₀ s₀ left₀ codes widths types categories room s left = left
 
 buffer-requires : tie.Need-buffer-requires Inv-loop μ-loop
 buffer-requires c κs = search needs

@@ -14,10 +14,10 @@ use Rattle.lines.proofs.join_accepted.Tie as tie
 
 -- what the call was given
 abbrev setting : tie.Start → Setting
-setting s = let a = s .args in settingOf (a .pre-types .now) (a .pre-cats .now) (a .post-types .now) (a .post-cats .now) (a .features) (a .mongolian)
+setting s = let a = s .args in settingOf (a .pre-types .now) (a .pre-categories .now) (a .post-types .now) (a .post-categories .now) (a .features) (a .mongolian)
 
 abbrev line : tie.Start → Line
-line s = let a = s .args in lineOf (a .codes .now) (a .types .now) (a .cats .now) (a .base .now) (a .actions .now) (a .masks .now)
+line s = let a = s .args in lineOf (a .codes .now) (a .types .now) (a .categories .now) (a .base .now) (a .actions .now) (a .masks .now)
 
 given : (s : tie.Start) → Accepted (setting s) (line s)
 given s = accepted (setting s) (line s) (s .pre)

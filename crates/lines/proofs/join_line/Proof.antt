@@ -13,10 +13,10 @@ use Rattle.lines.proofs.join_line.Tie as tie
 
 -- what the call was given
 abbrev setting : tie.Start → Setting
-setting s = let a = s .args in settingOf (a .pre-types .now) (a .pre-cats .now) (a .post-types .now) (a .post-cats .now) (a .features) (a .mongolian)
+setting s = let a = s .args in settingOf (a .pre-types .now) (a .pre-categories .now) (a .post-types .now) (a .post-categories .now) (a .features) (a .mongolian)
 
 abbrev line : tie.Start → Line
-line s = let a = s .args in lineOf (a .codes .now) (a .types .now) (a .cats .now) (a .base .now) (a .actions .now) (a .masks .now)
+line s = let a = s .args in lineOf (a .codes .now) (a .types .now) (a .categories .now) (a .base .now) (a .actions .now) (a .masks .now)
 
 -- the number that is tested
 found : (c : tie.After-number) → let s = c .before .before .before .before .before .before .before .before .before .before .before .before .before .before .before in said (c .before .refused .result) ≡ refusal (setting s) (line s)

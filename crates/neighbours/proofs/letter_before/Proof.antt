@@ -11,11 +11,11 @@ use Rattle.neighbours.proofs.letter_before.Statement.{statement}
 use Rattle.neighbours.proofs.letter_before.Tie as tie
 
 abbrev Inv-loop : tie.InvT-loop
-Inv-loop types cats k before i₀ i =
-    (i ≤ k) × ((found : Neighbour) → StandsBefore (lineTypes types cats) i before found → StandsBefore (lineTypes types cats) k before found)
+Inv-loop types categories k before i₀ i =
+    (i ≤ k) × ((found : Neighbour) → StandsBefore (lineTypes types categories) i before found → StandsBefore (lineTypes types categories) k before found)
 
 abbrev μ-loop : tie.MeasureT-loop
-μ-loop types cats k before i₀ i = i
+μ-loop types categories k before i₀ i = i
 
 loop-holds : tie.Need-loop-holds Inv-loop μ-loop
 loop-holds c = (search needs, λ found f. f)

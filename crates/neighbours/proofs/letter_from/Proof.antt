@@ -12,11 +12,11 @@ use Rattle.neighbours.proofs.letter_from.Statement.{statement}
 use Rattle.neighbours.proofs.letter_from.Tie as tie
 
 abbrev Inv-loop : tie.InvT-loop
-Inv-loop types cats k behind i₀ i =
-    (i ≤ length types) × ((found : Neighbour) → StandsFrom (lineTypes types cats) i behind found → StandsFrom (lineTypes types cats) k behind found)
+Inv-loop types categories k behind i₀ i =
+    (i ≤ length types) × ((found : Neighbour) → StandsFrom (lineTypes types categories) i behind found → StandsFrom (lineTypes types categories) k behind found)
 
 abbrev μ-loop : tie.MeasureT-loop
-μ-loop types cats k behind i₀ i = length types - i
+μ-loop types categories k behind i₀ i = length types - i
 
 loop-holds : tie.Need-loop-holds Inv-loop μ-loop
 loop-holds c = (c .before .before .pre .1, λ found f. f)

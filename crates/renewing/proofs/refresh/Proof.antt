@@ -16,13 +16,13 @@ abbrev frame : tie.Start → Frame
 frame s = let a = s .args in frameBy (a .before) (a .behind) (a .features .now) (a .mongolian)
 
 abbrev line : tie.Start → Line
-line s = let a = s .args in lineOf (a .codes .now) (a .types .now) (a .cats .now) (a .base .now) (a .actions .now) (a .masks .now)
+line s = let a = s .args in lineOf (a .codes .now) (a .types .now) (a .categories .now) (a .base .now) (a .actions .now) (a .masks .now)
 
 -- what the letter behind the place sees before it, and what the one before the place sees behind it
 back :
     (c : tie.After-past2)
     → let a = c .before .before .before .before .before .before .before .before .before .before .before .before .before .args in
-    c .before .past .result ≡ latest (a .before) (take (c .before .before .before .before .letter-from .result .place) (lineTypes (a .types .now) (a .cats .now)))
+    c .before .past .result ≡ latest (a .before) (take (c .before .before .before .before .letter-from .result .place) (lineTypes (a .types .now) (a .categories .now)))
 back c =
     let s = c .before .before .before .before .before .before .before .before .before .before .before .before .before in
     seen-back (s .pre .0 .letters) (s .args .k) _ (s .pre .1) (c .before .before .before .before .before .before .type-at .ensures) (s .args .before) _ _ _ (c .before .before .before .before .before .letter-before .ensures .letter) (c .before .before .before .before .letter-from .ensures .place) (c .before .past .ensures)
@@ -31,7 +31,7 @@ ahead :
     (c : tie.After-past2)
     → let a = c .before .before .before .before .before .before .before .before .before .before .before .before .before .args in
     let q = c .before .before .before .before .before .letter-before .result .place in
-    q < length (a .types .now) → c .past2 .result ≡ nearest (drop (q + 1) (lineTypes (a .types .now) (a .cats .now))) (a .behind)
+    q < length (a .types .now) → c .past2 .result ≡ nearest (drop (q + 1) (lineTypes (a .types .now) (a .categories .now))) (a .behind)
 ahead c =
     let s = c .before .before .before .before .before .before .before .before .before .before .before .before .before in
     seen-ahead (s .pre .0 .letters) (s .args .k) _ (s .pre .1) (c .before .before .before .before .before .before .type-at .ensures) (s .args .behind) _ _ _ (c .before .before .before .before .before .letter-before .ensures .place) (c .before .before .before .before .letter-from .ensures .letter) (c .past2 .ensures)

@@ -44,10 +44,10 @@ sooner-requires-2 c κs = search needs
 returns : tie.Need-returns
 returns c =
     let a = c .before .before .before .before .before .before .before .before .before .before .before .before .before .before .before .before .before .before .before .before .before .args in
-    let line = lineOf (a .codes .now) (a .types .now) (a .cats .now) (a .base .now) (a .actions .now) (a .masks .now) in
+    let line = lineOf (a .codes .now) (a .types .now) (a .categories .now) (a .base .now) (a .actions .now) (a .masks .now) in
     let asked = requestOf (a .place) 0 (a .joining-type .0) (a .category .0) in
-    let pre = lettersOf (a .pre-types .now) (a .pre-cats .now) in
-    let post = lettersOf (a .post-types .now) (a .post-cats .now) in
+    let pre = lettersOf (a .pre-types .now) (a .pre-categories .now) in
+    let post = lettersOf (a .post-types .now) (a .post-categories .now) in
     rw
     (c .sooner2 .ensures, c .before .sooner .ensures, c .before .before .unless2 .ensures, c .before .before .before .unless .ensures, c .before .before .before .before .before .before .before .before .within .ensures, c .before .before .before .before .before .before .before .before .before .refused .ensures, c .before .before .before .before .before .before .before .before .before .before .even-line .ensures)
     (table (uneven (evenLine line) pre post) (tooLong (line .letters) pre post) (strange (line .letters) pre post) (strangeRequest asked line) (outside asked line))

@@ -13,10 +13,10 @@ use Rattle.replacing.proofs.replace_accepted.Tie as tie
 
 -- what the call was given
 abbrev setting : tie.Start → Setting
-setting s = let a = s .args in settingOf (a .pre-types .now) (a .pre-cats .now) (a .post-types .now) (a .post-cats .now) (a .t9) (a .mongolian)
+setting s = let a = s .args in settingOf (a .pre-types .now) (a .pre-categories .now) (a .post-types .now) (a .post-categories .now) (a .t9) (a .mongolian)
 
 abbrev line : tie.Start → Line
-line s = let a = s .args in lineOf (a .codes .now) (a .types .now) (a .cats .now) (a .base .now) (a .actions .now) (a .masks .now)
+line s = let a = s .args in lineOf (a .codes .now) (a .types .now) (a .categories .now) (a .base .now) (a .actions .now) (a .masks .now)
 
 abbrev request : tie.Start → Request
 request s = let a = s .args in requestOf (a .place) (a .code .0) (a .joining-type .0) (a .category .0)
@@ -36,8 +36,8 @@ slice-write-codes c = inside (c .before .before .before .before .before .before 
 slice-write-types : tie.Need-slice-write-types
 slice-write-types c = given (c .before .before .before .before .before .before .before .before .before .before) .inside
 
-slice-write-cats : tie.Need-slice-write-cats
-slice-write-cats c = let g = given (c .before .before .before .before .before .before .before .before .before .before) in omega (arith, g .inside, g .line .line .even)
+slice-write-categories : tie.Need-slice-write-categories
+slice-write-categories c = let g = given (c .before .before .before .before .before .before .before .before .before .before) in omega (arith, g .inside, g .line .line .even)
 
 first-letter-requires : tie.Need-first-letter-requires
 first-letter-requires c κs = given (c .before .before .before .before .before .before .before .before .before .before) .line .pre
@@ -76,7 +76,7 @@ replace-accepted-spec =
     mul-codes
     slice-write-codes
     slice-write-types
-    slice-write-cats
+    slice-write-categories
     first-letter-requires
     first-letter-requires-2
     refresh-requires

@@ -12,10 +12,10 @@ use Rattle.replacing.proofs.replace_letter.Tie as tie
 
 -- what the call was given, and the line that it leaves if it is accepted
 abbrev setting : tie.Start → Setting
-setting s = let a = s .args in settingOf (a .pre-types .now) (a .pre-cats .now) (a .post-types .now) (a .post-cats .now) (a .features) (a .mongolian)
+setting s = let a = s .args in settingOf (a .pre-types .now) (a .pre-categories .now) (a .post-types .now) (a .post-categories .now) (a .features) (a .mongolian)
 
 abbrev line : tie.Start → Line
-line s = let a = s .args in lineOf (a .codes .now) (a .types .now) (a .cats .now) (a .base .now) (a .actions .now) (a .masks .now)
+line s = let a = s .args in lineOf (a .codes .now) (a .types .now) (a .categories .now) (a .base .now) (a .actions .now) (a .masks .now)
 
 abbrev request : tie.Start → Request
 request s = let a = s .args in requestOf (a .place) (a .code .0) (a .joining-type .0) (a .category .0)

@@ -4,6 +4,7 @@ pub mod ExamplesHold
 pub mod JoiningHolds
 pub mod MarksHold
 pub mod NamedLaws
+pub mod NeighbourLaws
 pub mod ProgramHolds
 pub mod PartLaws
 pub mod RangeLaws

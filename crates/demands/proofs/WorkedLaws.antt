@@ -39,7 +39,7 @@ module _ {A : Type 0} (P : A → Type 0) where
   Every [] = Unit
   Every (x ∷ l) = P x × Every l
 
-  every-append : (x y : List A) → Every x → Every y → Every (x ++ y)
+  pub every-append : (x y : List A) → Every x → Every y → Every (x ++ y)
   every-append [] y e f = f
   every-append (a ∷ x) y e f = (e .0, every-append x y (e .1) f)
 
@@ -47,7 +47,7 @@ module _ {A : Type 0} (P : A → Type 0) where
   every-replicate zero a e = tt
   every-replicate (suc n) a e = (e, every-replicate n a e)
 
-  every-onto : (l r : List A) → Every l → Every r → Every (reverseAux l r)
+  pub every-onto : (l r : List A) → Every l → Every r → Every (reverseAux l r)
   every-onto [] r e f = f
   every-onto (x ∷ l) r e f = every-onto l (x ∷ r) (e .1) (e .0, f)
 

@@ -3,6 +3,7 @@
 pub mod Examples
 pub mod Joining
 pub mod Marks
+pub mod Neighbours
 pub mod Program
 pub mod Recording
 pub mod Replacing

@@ -10,11 +10,11 @@ use lib.ListN.{length, getD, set}
 use Rattle.laws.specs.Rows.{Has}
 use Rattle.refusals.specs.declared.Verdict.{Verdict}
 use Rattle.refusals.specs.Numbers.{said}
-use Rattle.letters.specs.Types.{T}
 use Rattle.selectors.specs.Selectors.{selector}
 use Rattle.lines.specs.Held.{Setting, Line}
 use Rattle.lines.specs.Joined.{typesOf, joinedLine, Joining}
 use Rattle.replacing.specs.Replaced.{Request, replaceRows, Replacing}
+use Rattle.demands.specs.Neighbours.{NearestBefore, NearestBehind}
 
 -- Any two answers that the statement allows are equal, and so are the lines that they leave.
 abbrev pub OneAnswer : Type 0
@@ -57,19 +57,6 @@ AlwaysCurrent =
     (s : Setting) (l : Line) (r : Verdict) (k : Line) (all : List Request) (m : Line) → Joining s l r k → said r ≡ 0 → AfterAll s all k m → Current s m
 
 -- ---- the records that a new letter can alter
--- k is the nearest letter before place p that is not transparent: all between the two are
-pub record NearestBefore (ts : List ℕ) (p k : ℕ) : Type 0 where
-  pub earlier : k < p
-  pub letter : getD ts k 0 ≡ T → ⊥
-  pub between : (i : ℕ) → k < i → i < p → getD ts i 0 ≡ T
-
--- k is the nearest one behind it
-pub record NearestBehind (ts : List ℕ) (p k : ℕ) : Type 0 where
-  pub later : p < k
-  pub inside : k < length ts
-  pub letter : getD ts k 0 ≡ T → ⊥
-  pub between : (i : ℕ) → p < i → i < k → getD ts i 0 ≡ T
-
 -- the place itself, and the nearest letter on each side of it
 pub data Near (ts : List ℕ) (p : ℕ) : ℕ → Type 0 where
   itself : Near ts p p

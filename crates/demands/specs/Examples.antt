@@ -1,16 +1,19 @@
--- The worked examples that document 01 marks with a star, in its order, as one list: `Example` an input and what is printed for it;
--- `Gives` that a definition gives it; `Each` that all of a list do; `examples` the list; `Starred` the promise.
+-- The worked examples that document 01 marks with a star, in its order, as one list: `Example` an input of a call and what is printed for it; `Gives` that the call's statement
+-- gives it; `Each` that all of a list do; `features`, `setting`, `named`, `lent`, `joins` an example of joining by its types; `examples` the list, `Starred` the promise; `unstarred`, `Unstarred` those of joining and replacing without a star.
 -- Assumes nothing.
 use mathlib.Core.Path.{_≡_}
-use mathlib.Core.Bool.{true}
-use mathlib.Core.List.{List, [], _∷_}
+use mathlib.Core.Bool.{true, false, cond}
+use mathlib.Core.List.{List, [], _∷_, map}
 use Prim.Native.Nat.{ℕ}
+use lib.Dec.{eqb}
 use lib.IntN.{pos, negsuc}
 use Rattle.refusals.specs.Left.{After}
-use Rattle.letters.specs.Types.{L, R, D, Alaph, DalathRish, T}
-use Rattle.letters.specs.Categories.{Cf, Lo}
+use Rattle.letters.specs.Types.{U, L, R, D, Alaph, DalathRish, T}
+use Rattle.letters.specs.Categories.{Cf, Lo, Mn, Zs}
 use Rattle.letters.specs.Actions.{isol, fina, fin2, fin3, medi, med2, init, none, repeating}
-use Rattle.shapes.specs.Joining.{actionsOf}
+use Rattle.lines.specs.Held.{Setting, Line, settingOf, lineOf}
+use Rattle.lines.specs.Joined.{joinAfter}
+use Rattle.replacing.specs.Replaced as replacing
 use Rattle.marks.specs.Passes.{Span, Over}
 use Rattle.marks.specs.Reordered.{Request, Columns, requestOf, columnsOf, outcome, reorderAfter}
 use Rattle.runs.specs.Records as line
@@ -19,17 +22,19 @@ use Rattle.layouts.specs.declared.Kind.the-variants.{Single}
 use Rattle.layouts.specs.Lookups.{Lookup, lookupOf}
 use Rattle.layouts.specs.Written as writing
 
--- joining: the types of the pre-context, the line and the post-context, and the line's actions; reordering of marks: the request, the columns before, the
--- ranges, and the columns after; stretching: the request, with the line, the output before, how many records the answer says, and the output after; writing: the lookup, the area before, how many bytes the answer says, and the area after
+-- joining: the setting, the line before and after; replacing: the request as well; reordering of marks: the request, the columns before, the ranges, and the columns after; stretching: the request, with the line,
+-- the output before, how many records the answer says, and the output after; writing: the lookup, the area before, how many bytes the answer says, and the area after
 pub data Example : Type 0 where
-  Joins : (pre line post : List ℕ) → (actions : List ℕ) → Example
+  Joins : (given : Setting) → (before after : Line) → Example
+  Replaces : (given : Setting) → (asked : replacing.Request) → (before after : Line) → Example
   Reorders : (asked : Request) → (before : Columns) → (ranges : List Span) → (after : Columns) → Example
   Stretches : (asked : stretching.Request) → (before : line.Columns) → (count : ℕ) → (after : line.Columns) → Example
   Writes : (asked : Lookup) → (before : List ℕ) → (count : ℕ) → (after : List ℕ) → Example
 
--- an example of reordering, of stretching and of writing is of the whole call, which accepts it
+-- each is of the whole call, which accepts it
 abbrev pub Gives : Example → Type 0
-Gives (Joins pre line post actions) = actionsOf pre line post ≡ actions
+Gives (Joins given before after) = joinAfter given before ≡ After 0 after
+Gives (Replaces given asked before after) = replacing.replaceAfter given asked before ≡ After 0 after
 Gives (Reorders asked before ranges after) = reorderAfter asked before ≡ After 0 (outcome ranges after)
 Gives (Stretches asked before count after) = stretching.stretchAfter stretching.stretchedLimit asked before ≡ After 0 (stretching.outcome count after)
 Gives (Writes asked before count after) = writing.writeAfter asked before ≡ After 0 (writing.outcome count after)
@@ -38,32 +43,52 @@ abbrev pub Each : List Example → Type 0
 Each [] = Unit
 Each (e ∷ es) = Gives e × Each es
 
+-- seven feature masks, for isol, fina, fin2, fin3, medi, med2 and init: all unlike
+abbrev pub features : List ℕ
+features = 1 ∷ 2 ∷ 4 ∷ 8 ∷ 16 ∷ 32 ∷ 64 ∷ []
+
+-- transparent letters are nonspacing marks, all others are letters of no case
+abbrev pub named : List ℕ → List ℕ
+named types = map (λ t. cond (eqb t T) Mn Lo) types
+
+-- contexts of these types
+abbrev pub setting : List ℕ → List ℕ → Setting
+setting pre post = settingOf pre (named pre) post (named post) features false
+
+-- a line of these types, all of one code and one base mask, 128, with these actions and masks
+abbrev pub lent : List ℕ → List ℕ → List ℕ → Line
+lent types actions masks = lineOf (map (λ t. 0x0628) types) types (named types) (map (λ t. 128) types) actions masks
+
+-- such a line, which has other actions and other masks before, between such contexts
+abbrev pub joins : (pre line post actions masks : List ℕ) → Example
+joins pre line post actions masks = Joins (setting pre post) (lent line (map (λ t. repeating) line) (map (λ t. 255) line)) (lent line actions masks)
+
 abbrev pub examples : List Example
 examples =
     -- D D D: init medi fina
-    Joins [] (D ∷ D ∷ D ∷ []) [] (init ∷ medi ∷ fina ∷ []) ∷
+    joins [] (D ∷ D ∷ D ∷ []) [] (init ∷ medi ∷ fina ∷ []) (192 ∷ 144 ∷ 130 ∷ []) ∷
     -- D L: isol isol
-    Joins [] (D ∷ L ∷ []) [] (isol ∷ isol ∷ []) ∷
+    joins [] (D ∷ L ∷ []) [] (isol ∷ isol ∷ []) (129 ∷ 129 ∷ []) ∷
     -- L R: init fina
-    Joins [] (L ∷ R ∷ []) [] (init ∷ fina ∷ []) ∷
+    joins [] (L ∷ R ∷ []) [] (init ∷ fina ∷ []) (192 ∷ 130 ∷ []) ∷
     -- T T: none none
-    Joins [] (T ∷ T ∷ []) [] (none ∷ none ∷ []) ∷
+    joins [] (T ∷ T ∷ []) [] (none ∷ none ∷ []) (128 ∷ 128 ∷ []) ∷
     -- pre-context D, line R: fina
-    Joins (D ∷ []) (R ∷ []) [] (fina ∷ []) ∷
+    joins (D ∷ []) (R ∷ []) [] (fina ∷ []) (130 ∷ []) ∷
     -- line D, post-context R: init
-    Joins [] (D ∷ []) (R ∷ []) (init ∷ []) ∷
+    joins [] (D ∷ []) (R ∷ []) (init ∷ []) (192 ∷ []) ∷
     -- pre-context D, empty line: nothing
-    Joins (D ∷ []) [] [] [] ∷
+    joins (D ∷ []) [] [] [] [] ∷
     -- R Alaph: isol fin2
-    Joins [] (R ∷ Alaph ∷ []) [] (isol ∷ fin2 ∷ []) ∷
+    joins [] (R ∷ Alaph ∷ []) [] (isol ∷ fin2 ∷ []) (129 ∷ 132 ∷ []) ∷
     -- Dalath-Rish Alaph: isol fin3
-    Joins [] (DalathRish ∷ Alaph ∷ []) [] (isol ∷ fin3 ∷ []) ∷
+    joins [] (DalathRish ∷ Alaph ∷ []) [] (isol ∷ fin3 ∷ []) (129 ∷ 136 ∷ []) ∷
     -- D Alaph R: init med2 isol
-    Joins [] (D ∷ Alaph ∷ R ∷ []) [] (init ∷ med2 ∷ isol ∷ []) ∷
+    joins [] (D ∷ Alaph ∷ R ∷ []) [] (init ∷ med2 ∷ isol ∷ []) (192 ∷ 160 ∷ 129 ∷ []) ∷
     -- R Alaph D: isol isol isol
-    Joins [] (R ∷ Alaph ∷ D ∷ []) [] (isol ∷ isol ∷ isol ∷ []) ∷
+    joins [] (R ∷ Alaph ∷ D ∷ []) [] (isol ∷ isol ∷ isol ∷ []) (129 ∷ 129 ∷ 129 ∷ []) ∷
     -- D Alaph L: init fina isol
-    Joins [] (D ∷ Alaph ∷ L ∷ []) [] (init ∷ fina ∷ isol ∷ []) ∷
+    joins [] (D ∷ Alaph ∷ L ∷ []) [] (init ∷ fina ∷ isol ∷ []) (192 ∷ 130 ∷ 129 ∷ []) ∷
     -- codes 064E 0655 065F 0654, classes 30 220 220 230: 0655 0654 064E 065F; ranges 0 to 2, 1 to 4. The class numbers lent are 25 and 26
     Reorders
     (requestOf 0 4 25 26)
@@ -136,3 +161,22 @@ examples =
 
 abbrev pub Starred : Type 0
 Starred = Each examples
+
+-- the two of joining and replacing that have no star
+abbrev pub unstarred : List Example
+unstarred =
+    -- Mongolian D, 180B (T), 180E (U): isol isol none
+    Joins
+    (settingOf [] [] [] [] features true)
+    (lineOf (0x1820 ∷ 0x180B ∷ 0x180E ∷ []) (D ∷ T ∷ U ∷ []) (Lo ∷ Mn ∷ Cf ∷ []) (128 ∷ 128 ∷ 128 ∷ []) (medi ∷ medi ∷ medi ∷ []) (255 ∷ 255 ∷ 255 ∷ []))
+    (lineOf (0x1820 ∷ 0x180B ∷ 0x180E ∷ []) (D ∷ T ∷ U ∷ []) (Lo ∷ Mn ∷ Cf ∷ []) (128 ∷ 128 ∷ 128 ∷ []) (isol ∷ isol ∷ none ∷ []) (129 ∷ 129 ∷ 128 ∷ [])) ∷
+    -- D D D, the middle replaced by U: isol none isol
+    Replaces
+    (setting [] [])
+    (replacing.requestOf 1 0x0020 U Zs)
+    (lent (D ∷ D ∷ D ∷ []) (init ∷ medi ∷ fina ∷ []) (192 ∷ 144 ∷ 130 ∷ []))
+    (lineOf (0x0628 ∷ 0x0020 ∷ 0x0628 ∷ []) (D ∷ U ∷ D ∷ []) (Lo ∷ Zs ∷ Lo ∷ []) (128 ∷ 128 ∷ 128 ∷ []) (isol ∷ none ∷ isol ∷ []) (129 ∷ 128 ∷ 129 ∷ [])) ∷
+    []
+
+abbrev pub Unstarred : Type 0
+Unstarred = Each unstarred

@@ -1,6 +1,6 @@
--- What is known of a line that is not refused (`accepted`, `no-row`). And of lines: as many fresh actions as letters; lines that differ in actions and masks alone.
+-- What is known of a line that is not refused (`accepted`, `no-row`), and that it is not refused once it is joined (`refusal-joined`). And of lines: fresh actions are those of the line between its contexts (`fresh-contexts`), as many as letters; lines that differ in actions and masks alone.
 -- Assumes nothing.
-use mathlib.Core.Path.{_≡_, sym, _∙_}
+use mathlib.Core.Path.{_≡_, refl, sym, _∙_}
 use mathlib.Core.Bool.{Bool, true, false, cond, _&&_}
 use mathlib.Core.List.{List, [], _∷_}
 use Prim.Native.Nat.{ℕ}
@@ -12,13 +12,15 @@ use Rattle.laws.proofs.TestLaws.{both}
 use Rattle.refusals.specs.Columns.{atMost}
 use Rattle.letters.specs.Types.{X}
 use Rattle.letters.specs.Categories.{Zs}
-use Rattle.shapes.specs.Joining.{form, eachBetween}
-use Rattle.shapes.proofs.JoiningLaws.{length-each}
+use Rattle.shapes.specs.Joining.{form, eachBetween, actionsOf}
+use Rattle.shapes.proofs.JoiningLaws.{length-each, length-lineTypes}
 use Rattle.selectors.specs.Selectors.{settled}
 use Rattle.selectors.proofs.SelectorLaws.{length-settled}
+use Rattle.masks.specs.Masks.{masks}
+use Rattle.masks.proofs.MaskLaws.{length-masks}
 use Rattle.joining.specs.Joinable.{Joinable}
 use Rattle.lines.specs.Held.{Letters, Setting, Frame, Line}
-use Rattle.lines.specs.Joined.{typesOf, freshActions, sized, evenLetters, evenLine, knownLetters, uneven, tooLong, strange, refusal}
+use Rattle.lines.specs.Joined.{typesOf, frameOf, freshActions, joinedLine, sized, evenLetters, evenLine, knownLetters, uneven, tooLong, strange, refusal}
 
 sized-length : (n : ℕ) (column : List ℕ) → sized n column ≡ true → length column ≡ n
 sized-length n column e = sym (eqb-true n (length column) e)
@@ -86,6 +88,22 @@ length-fresh f l = go (f .mongolian)
     go : (mongolian : Bool) → length (cond mongolian (settled (l .codes) joined) joined) ≡ length (typesOf (l .letters))
     go true = length-settled (l .codes) joined ∙ length-each form (f .before) (typesOf (l .letters)) (f .behind)
     go false = length-each form (f .before) (typesOf (l .letters)) (f .behind)
+
+-- those that `actionsOf` gives, settled in a Mongolian line
+pub fresh-contexts :
+    (s : Setting) (l : Line)
+    → let joined = actionsOf (typesOf (s .pre)) (typesOf (l .letters)) (typesOf (s .post)) in
+    freshActions (frameOf s) l ≡ cond (s .mongolian) (settled (l .codes) joined) joined
+fresh-contexts s l = refl
+
+-- a joined line is refused as the line itself is: never
+pub refusal-joined : (s : Setting) (l : Line) → Accepted s l → refusal s (joinedLine s l) ≡ refusal s l
+unfolding refusal
+refusal-joined s l a =
+    let n = length (l .letters .types) in
+    let long : length (freshActions (frameOf s) l) ≡ n = length-fresh (frameOf s) l ∙ length-lineTypes (l .letters .types) (l .letters .categories) (a .line .even) in
+    let masked : length (masks (s .features) (l .base) (freshActions (frameOf s) l)) ≡ n = length-masks (s .features) (l .base) (freshActions (frameOf s) l) (a .base ∙ sym long) ∙ long in
+    rw (long, masked, a .actions, a .masks)
 
 -- lines that differ in actions and masks alone
 abbrev pub formed : List ℕ → Letters → List ℕ → List ℕ → List ℕ → Line

@@ -1,5 +1,5 @@
 -- What is known of a request that is not refused (`Allowed`, `allowed`); what the call leaves (`left-replaced`); and that, once it is carried out, every other request has the number that it had before
--- (`refusal-replaced`).
+-- (`refusal-replaced`), and so has joining (`joining-replaced`).
 -- Assumes nothing.
 use mathlib.Core.Path.{_≡_, refl, sym, _∙_}
 use mathlib.Core.Bool.{Bool, true, false, cond, _&&_, _||_, and-eq-true-iff}
@@ -22,7 +22,7 @@ use Rattle.letters.specs.Categories.{Zs}
 use Rattle.letters.specs.Actions.{repeating}
 use Rattle.shapes.proofs.JoiningLaws.{length-lineTypes}
 use Rattle.lines.specs.Held.{Setting, Line}
-use Rattle.lines.specs.Joined.{typesOf, frameOf, freshActions, evenLine, knownLetters, uneven, tooLong, strange}
+use Rattle.lines.specs.Joined.{typesOf, frameOf, freshActions, evenLine, knownLetters, uneven, tooLong, strange, refusal}
 use Rattle.lines.proofs.LineLaws.{Accepted, no-row}
 use Rattle.renewing.specs.Renewed.{touched, renewed}
 use Rattle.renewing.specs.Renewable.{Renewable}
@@ -119,6 +119,15 @@ module _ (s : Setting) (r : Request) (l : Line) (a : Allowed s r l) where
       either : (b : Bool) {x y : ℕ} → x ≤ repeating → y ≤ repeating → cond b x y ≤ repeating
       either true h k = h
       either false h k = k
+
+  -- nor is a line that stays allowed refused by joining
+  pub joining-replaced : refusal s (replacedLine (frameOf s) r l) ≡ refusal s l
+  unfolding refusal
+  joining-replaced =
+      let m = replacedLine (frameOf s) r l in
+      let even : evenLine m ≡ evenLine l = simp (length-set, length-renewed) in
+      let long : tooLong (m .letters) (s .pre) (s .post) ≡ tooLong (l .letters) (s .pre) (s .post) = simp length-set in
+      rw (even, long, known-replaced, a .known)
 
   pub refusal-replaced : (q : Request) → replaceRefusal s q (replacedLine (frameOf s) r l) ≡ replaceRefusal s q l
   unfolding replaceRefusal

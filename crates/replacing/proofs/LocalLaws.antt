@@ -186,10 +186,10 @@ module _ (f : Frame) (r : Request) (l : Line) where
   pub length-changed : length (typesOf (changed r l .letters)) ≡ length (typesOf (l .letters))
   length-changed = ap length types-changed ∙ length-set (typesOf (l .letters)) (r .place) (resolved (r .type) (r .category))
 
-  types-elsewhere : (i : ℕ) → (i ≡ r .place → ⊥) → getD (typesOf (changed r l .letters)) i 0 ≡ getD (typesOf (l .letters)) i 0
+  pub types-elsewhere : (i : ℕ) → (i ≡ r .place → ⊥) → getD (typesOf (changed r l .letters)) i 0 ≡ getD (typesOf (l .letters)) i 0
   types-elsewhere i d = rw types-changed (getD-set-other (typesOf (l .letters)) (r .place) i _ 0 d)
 
-  marks-elsewhere : (i : ℕ) → (i ≡ r .place → ⊥) → marks f (changed r l) i ≡ marks f l i
+  pub marks-elsewhere : (i : ℕ) → (i ≡ r .place → ⊥) → marks f (changed r l) i ≡ marks f l i
   marks-elsewhere i d = ap (λ (c : ℕ). f .mongolian && selector c) (getD-set-other (l .codes) (r .place) i (r .code) 0 d)
 
   -- a new letter alters the actions only that it touches

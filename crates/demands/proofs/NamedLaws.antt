@@ -1,18 +1,18 @@
--- The records that the promises of replacing name are those that the laws of replacing call touched (`touches-named`, `named-touches`).
+-- The records that the promises of replacing name are those that the laws of replacing call touched (`touches-named`, `named-touches`), they stand in the line (`named-inside`), and the letter at the place itself does not count for them (`named-own`).
 -- Assumes nothing.
-use mathlib.Core.Path.{_≡_, refl, sym, subst}
-use mathlib.Core.Bool.{Bool, true, and-eq-true-iff}
+use mathlib.Core.Path.{_≡_, refl, sym, subst, _∙_}
+use mathlib.Core.Bool.{Bool, true, false, and-eq-true-iff, false≢true}
 use mathlib.Core.List.{List}
 use mathlib.Core.Logic.{_⊎_, inl, inr, ⊎-elim, by-cases}
 use Prim.Native.Nat.{ℕ, _<_, _≤_}
 use native.Mathlib.Nat.{eq-or-lt-of-le}
 use native.Mathlib.Decide.{decLt}
 use native.Mathlib.Omega.{arith}
-use lib.ListN.{length, getD}
+use lib.ListN.{length, getD, List·getD-eq-default}
 use Rattle.selectors.specs.Selectors.{selector}
 use Rattle.selectors.proofs.RunLaws.{marked}
 use Rattle.shapes.proofs.PlaceLaws.{Beside}
-use Rattle.replacing.proofs.LocalLaws.{Touches}
+use Rattle.replacing.proofs.LocalLaws.{Touches, touches-own}
 use Rattle.demands.specs.Replacing.{Near, itself, before, behind, Named, near, run}
 
 beside-near : (ts : List ℕ) (p k : ℕ) → k < length ts → (k ≡ p) ⊎ Beside ts p k → Near ts p k
@@ -49,3 +49,22 @@ module _ (mongolian : Bool) (codes ts : List ℕ) (p : ℕ) where
   named-touches {j} (near n) = record { root = j; near = near-beside ts p n; reaches = record { forward = omega arith; all = λ i l h. absurd (omega arith) } }
   named-touches (run {k = k} e n b) =
       record { root = k; near = near-beside ts p n; reaches = record { forward = omega (arith, b .later); all = λ i l h. simp (e, b .selectors i l h) } }
+
+  -- past the end there is no letter, and no selector
+  pub named-inside : length codes ≡ length ts → p < length ts → {j : ℕ} → Named mongolian codes ts p j → j < length ts
+  named-inside even on (near itself) = on
+  named-inside even on (near (before n)) = omega (arith, n .earlier)
+  named-inside even on (near (behind n)) = n .inside
+  named-inside even on {j} (run e n b) = by-cases (decLt j (length codes)) (λ h. omega (arith, even, h)) (λ n. absurd (false≢true (sym (past n) ∙ b .selectors j (b .later) (omega arith))))
+    where
+      past : (j < length codes → ⊥) → selector (getD codes j 0) ≡ false
+      past n = rw (List·getD-eq-default codes 0 {n = j} (omega (arith, n))) refl
+
+-- two lines that differ at p alone name the same records from there
+pub named-own :
+    (mongolian : Bool) (codes codes′ ts us : List ℕ) (p : ℕ) → length codes ≡ length ts → length us ≡ length ts → p < length ts
+    → ((i : ℕ) → (i ≡ p → ⊥) → getD us i 0 ≡ getD ts i 0) → ((i : ℕ) → (i ≡ p → ⊥) → marked mongolian codes′ i ≡ marked mongolian codes i)
+    → {j : ℕ} → Named mongolian codes ts p j → Named mongolian codes′ us p j
+named-own mongolian codes codes′ ts us p even long on same alike {j} n =
+    touches-named mongolian codes′ us p j (omega (arith, named-inside mongolian codes ts p even on n, long))
+    (touches-own ts us (marked mongolian codes) (marked mongolian codes′) p same alike j (named-touches mongolian codes ts p n))

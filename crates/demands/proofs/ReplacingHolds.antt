@@ -1,21 +1,27 @@
 -- The promises of replacing a letter hold.
 -- Assumes nothing.
-use mathlib.Core.Path.{_≡_, refl, sym, _∙_}
+use mathlib.Core.Path.{_≡_, refl, sym, ap, _∙_}
 use mathlib.Core.List.{List, [], _∷_}
 use mathlib.Core.Logic.{⊎-elim}
+use Prim.Native.Nat.{_<_}
+use native.Mathlib.Omega.{arith}
+use lib.ListN.{length, length-set}
 use Rattle.refusals.specs.Numbers.{said}
 use Rattle.refusals.specs.declared.Verdict.{Verdict}
 use Rattle.refusals.proofs.VerdictLaws.{same-said}
 use Rattle.lines.specs.Held.{Setting, Line}
-use Rattle.lines.specs.Joined.{refusal, frameOf, joinedLine}
+use Rattle.lines.specs.Joined.{refusal, frameOf, joinedLine, typesOf}
+use Rattle.lines.proofs.LineLaws as LineLaws
+use Rattle.lines.proofs.LineLaws.{refusal-joined}
 use Rattle.refusals.proofs.LeftLaws.{same-left, left-number, left-stays, left-smallest, left-accepted}
-use Rattle.replacing.specs.Replaced.{Request, replacedLine, replaceRows, replaceRefusal, replaceAfter, Replacing}
+use Rattle.replacing.specs.Replaced.{Request, changed, replacedLine, replaceRows, replaceRefusal, replaceAfter, Replacing}
 use Rattle.renewing.proofs.RenewLaws.{length-renewed}
-use Rattle.replacing.proofs.AllowedLaws.{Allowed, allowed, left-replaced}
+use Rattle.replacing.proofs.AllowedLaws.{Allowed, allowed, left-replaced, length-letters, joining-replaced}
+use Rattle.replacing.proofs.LocalLaws.{length-changed, types-elsewhere, marks-elsewhere}
 use Rattle.replacing.proofs.CurrentLaws.{replaced-else, replaced-fresh, replaced-current}
 use Rattle.replacing.proofs.OrderLaws.{refusal-behind, left-order}
-use Rattle.demands.specs.Replacing.{OneAnswer, RefusedStays, SmallestNumber, Current, FreshCurrent, StaysCurrent, AfterAll, AlwaysCurrent, AltersNear, GetsFresh, ChangesLetter, NoOther, EitherOrder}
-use Rattle.demands.proofs.NamedLaws.{named-touches, touches-named}
+use Rattle.demands.specs.Replacing.{OneAnswer, RefusedStays, SmallestNumber, Current, FreshCurrent, StaysCurrent, AfterAll, AlwaysCurrent, JoinsToItself, NamedAlike, AltersNear, GetsFresh, ChangesLetter, NoOther, EitherOrder}
+use Rattle.demands.proofs.NamedLaws.{named-touches, touches-named, named-own}
 use Rattle.demands.proofs.WholeLaws.{whole}
 
 pub one-answer : OneAnswer
@@ -41,6 +47,22 @@ all-current s (q ∷ qs) l m c (r, k, e, on) = all-current s qs k m (stays-curre
 pub always-current : AlwaysCurrent
 always-current s l r k qs m e z on = all-current s qs k m (fresh-current s l r k e z) on
 
+-- a line that joining accepts, it accepts after any requests
+rejoined : (s : Setting) (q : Request) (l : Line) (r : Verdict) (m : Line) → Replacing s q l r m → refusal s m ≡ refusal s l
+rejoined s q l r m e = ⊎-elim (λ (d, same). rw same refl) (λ (a, new). rw new (joining-replaced s q l a)) (left-replaced s q l (said r) m e)
+
+all-rejoined : (s : Setting) (qs : List Request) (l m : Line) → AfterAll s qs l m → refusal s m ≡ refusal s l
+all-rejoined s [] l m e = rw e refl
+all-rejoined s (q ∷ qs) l m (r, k, e, on) = all-rejoined s qs k m on ∙ rejoined s q l r k e
+
+pub joins-to-itself : JoinsToItself
+joins-to-itself s l r k qs m e z on u n f =
+    let none : refusal s l ≡ 0 = sym (left-number (refusal s l) l (joinedLine s l) (said r) k e) ∙ z in
+    let fresh : k ≡ joinedLine s l = left-accepted (refusal s l) l (joinedLine s l) (said r) k e z in
+    let still : refusal s m ≡ 0 = all-rejoined s qs k m on ∙ ap (refusal s) fresh ∙ refusal-joined s l (LineLaws.accepted s l none) ∙ none in
+    let number : said u ≡ 0 = left-number (refusal s m) m (joinedLine s m) (said u) n f ∙ still in
+    (number, left-accepted (refusal s m) m (joinedLine s m) (said u) n f number ∙ sym (always-current s l r k qs m e z on))
+
 -- an accepted request, and the line that it leaves
 module _ (s : Setting) (q : Request) (l : Line) (r : Verdict) (m : Line) (e : Replacing s q l r m) (z : said r ≡ 0) where
   accepted : Allowed s q l
@@ -53,6 +75,19 @@ pub changes-letter : ChangesLetter
 changes-letter s q l r m e z =
     rw (left s q l r m e z)
     (record { codes = refl; types = refl; categories = refl; base = refl; actions = length-renewed _ _ (l .actions); masks = length-renewed _ _ (l .masks) })
+
+pub named-alike : NamedAlike
+named-alike s q l r m e z j =
+    let f = frameOf s in
+    let a = accepted s q l r m e z in
+    let old = typesOf (l .letters) in
+    let new = changed q l in
+    let long = length-changed f q l in
+    let even : length (l .codes) ≡ length old = a .line .codes ∙ sym (length-letters s q l a) in
+    let inside : q .place < length old = omega (arith, length-letters s q l a, a .inside) in
+    rw (left s q l r m e z)
+    (named-own (s .mongolian) (l .codes) (new .codes) old (typesOf (new .letters)) (q .place) even long inside (types-elsewhere f q l) (marks-elsewhere f q l),
+    named-own (s .mongolian) (new .codes) (l .codes) (typesOf (new .letters)) old (q .place) (length-set (l .codes) (q .place) (q .code) ∙ even ∙ sym long) (sym long) (omega (arith, long, inside)) (λ i d. sym (types-elsewhere f q l i d)) (λ i d. sym (marks-elsewhere f q l i d)))
 
 pub alters-near : AltersNear
 alters-near s q l r m e z j =

@@ -1,10 +1,11 @@
 -- What replacing a letter promises, of every line, by the call's statement (`Replacing` of crate replacing): `OneAnswer`, `RefusedStays`, `SmallestNumber`. Demand 3: `Current` that every record
--- is as joining afresh gives; `FreshCurrent`, `StaysCurrent`, `AlwaysCurrent` that a line stays so; `Named` the records that a new letter can alter,
--- in plain words; `AltersNear`, `GetsFresh`, `ChangesLetter`, `NoOther` what a replacement alters and what not; `EitherOrder` that two may change places.
+-- is as joining afresh gives; `FreshCurrent`, `StaysCurrent`, `AlwaysCurrent` that a line stays so, `JoinsToItself` that joining accepts it and alters nothing; `Named` the records that a new letter can alter,
+-- in plain words, `NamedAlike` by the old line as by the new; `AltersNear`, `GetsFresh`, `ChangesLetter`, `NoOther` what a replacement alters and what not; `EitherOrder` that two may change places.
 -- Assumes nothing.
 use mathlib.Core.Path.{_≡_}
 use mathlib.Core.Bool.{Bool, true}
 use mathlib.Core.List.{List, [], _∷_}
+use mathlib.Core.Logic.{_↔_}
 use Prim.Native.Nat.{ℕ, _<_, _≤_}
 use lib.ListN.{length, getD, set}
 use Rattle.laws.specs.Rows.{Has}
@@ -56,6 +57,12 @@ abbrev pub AlwaysCurrent : Type 0
 AlwaysCurrent =
     (s : Setting) (l : Line) (r : Verdict) (k : Line) (all : List Request) (m : Line) → Joining s l r k → said r ≡ 0 → AfterAll s all k m → Current s m
 
+-- And `join_line` says so itself: whatever answer its statement allows for that line, it is accepted, and the line is as it was.
+abbrev pub JoinsToItself : Type 0
+JoinsToItself =
+    (s : Setting) (l : Line) (r : Verdict) (k : Line) (all : List Request) (m : Line) → Joining s l r k → said r ≡ 0 → AfterAll s all k m
+    → (u : Verdict) (n : Line) → Joining s m u n → (said u ≡ 0) × (n ≡ m)
+
 -- ---- the records that a new letter can alter
 -- the place itself, and the nearest letter on each side of it
 pub data Near (ts : List ℕ) (p : ℕ) : ℕ → Type 0 where
@@ -77,6 +84,11 @@ pub data Named (mongolian : Bool) (codes ts : List ℕ) (p : ℕ) : ℕ → Type
 -- the records of a line that a new letter at p can alter
 abbrev pub NamedIn : Setting → Line → ℕ → ℕ → Type 0
 NamedIn s l = Named (s .mongolian) (l .codes) (typesOf (l .letters))
+
+-- The line before a replacement and the line after it name the same records: the letter at a place does not count for what is named from there.
+abbrev pub NamedAlike : Type 0
+NamedAlike =
+    (s : Setting) (a : Request) (l : Line) (r : Verdict) (m : Line) → Replacing s a l r m → said r ≡ 0 → (j : ℕ) → NamedIn s l (a .place) j ↔ NamedIn s m (a .place) j
 
 -- the line m has the action and the mask of the line l at each record that is not named
 abbrev pub Kept : Setting → Request → Line → Line → Type 0

@@ -8,3 +8,4 @@ pub mod BoundLaws
 pub mod WritingHolds
 pub mod SaidLaws
 pub mod ReadingHolds
+pub mod SettledHolds

@@ -57,15 +57,15 @@ record Found (b : List ℕ) (c : Columns) (l : Lookup) (o : Outcome) : Type 0 wh
   there : o ≡ found l c
 
 module _ (b : List ℕ) (c : Columns) (r : Answer) (left : Columns) (x : Reading b c r left) where
-  number-given : numberSaid r ≡ readRefusal (reading b) c
+  pub number-given : numberSaid r ≡ readRefusal (reading b) c
   number-given = left-number (readRefusal (reading b) c) (nothing c) (made (reading b) c) (numberSaid r) (outcomeSaid r left) x
 
-  stays : (numberSaid r ≡ 0 → ⊥) → (left ≡ c) × (outcomeSaid r left ≡ nothing c)
+  pub stays : (numberSaid r ≡ 0 → ⊥) → (left ≡ c) × (outcomeSaid r left ≡ nothing c)
   stays d =
       let g = left-stays (readRefusal (reading b) c) (nothing c) (made (reading b) c) (numberSaid r) (outcomeSaid r left) x d in
       (sym (list-said r left) ∙ ap (λ (o : Outcome). o .list) g, g)
 
-  done : numberSaid r ≡ 0 → outcomeSaid r left ≡ made (reading b) c
+  pub done : numberSaid r ≡ 0 → outcomeSaid r left ≡ made (reading b) c
   done z = left-accepted (readRefusal (reading b) c) (nothing c) (made (reading b) c) (numberSaid r) (outcomeSaid r left) x z
 
   was-found : numberSaid r ≡ 0 → (l : Lookup) × Found b c l (outcomeSaid r left)
@@ -106,6 +106,24 @@ module _ (l : Lookup) where
   may-give area a = left-done (writeRefusal l (length area)) (outcome 0 area) _ 0 _ (sym (none-given l (length area) a)) refl refl
 
 -- ---- which bytes are accepted
+-- the bytes of a readable lookup are what the writer gives, lent an area of their length
+pub gives-written : (b : List ℕ) (l : Lookup) → b ≡ bytes (wordsOf l) → Readable l → WriterGives b l
+gives-written b l e q =
+    let long : 2 * length (wordsOf l) ≤ length b = omega (arith, ap length e, length-bytes (wordsOf l)) in
+    record {
+      area = b;
+      answer = Bytes (2 * length (wordsOf l));
+      left = bytes (wordsOf l) ++ drop (2 * length (wordsOf l)) b;
+      asked = may-give l b (allowed l (length b) q long);
+      written = refl;
+      there = front l b ∙ sym e;
+      up = q .up;
+    }
+
+-- and what it gives is read
+pub given-read : (b : List ℕ) (l : Lookup) → WriterGives b l → reading b ≡ fine (asRead l)
+given-read b l g = ap reading (sym (g .there)) ∙ given-accepted l (g .area) (g .answer) (g .left) (g .asked) (g .written) (g .up)
+
 pub accepts : Accepts
 unfolding readRefusal
 accepts b h c r left x = (on, back)
@@ -116,28 +134,10 @@ accepts b h c r left x = (on, back)
         go : (s : Scan) → reading b ≡ s → numberSaid r ≡ first (rowsOf s c) → (l : Lookup) × WriterGives b l
         go (wrong n) e f = absurd (d f)
         go short e f = absurd (d f)
-        go (fine l) e f =
-            let m = bytes-written b h l e in
-            let q = m .1 .readable in
-            let long : 2 * length (wordsOf l) ≤ length b = omega (arith, ap length (m .0), length-bytes (wordsOf l)) in (
-              l,
-              record {
-                area = b;
-                answer = Bytes (2 * length (wordsOf l));
-                left = bytes (wordsOf l) ++ drop (2 * length (wordsOf l)) b;
-                asked = may-give l b (allowed l (length b) q long);
-                written = refl;
-                there = front l b ∙ sym (m .0);
-                up = q .up;
-              },
-            )
+        go (fine l) e f = let m = bytes-written b h l e in (l, gives-written b l (m .0) (m .1 .readable))
 
     back : ((l : Lookup) × WriterGives b l) → numberSaid r ≡ 7 → ⊥
-    back p e =
-        let l : Lookup = p .0 in
-        let g : WriterGives b l = p .1 in
-        let s : reading b ≡ fine (asRead l) = ap reading (sym (g .there)) ∙ given-accepted l (g .area) (g .answer) (g .left) (g .asked) (g .written) (g .up) in
-        go (lacking (fine (asRead l)) c) (sym e ∙ number-given b c r left x ∙ ap (λ (s : Scan). first (rowsOf s c)) s)
+    back (l, g) e = go (lacking (fine (asRead l)) c) (sym e ∙ number-given b c r left x ∙ ap (λ (s : Scan). first (rowsOf s c)) (given-read b l g))
       where
         go : (t : Bool) → _≡_ {A = ℕ} 7 (cond t 8 0) → ⊥
         go true f = omega arith

@@ -3,3 +3,4 @@
 pub mod Followed
 pub mod Writing
 pub mod Reading
+pub mod Settled

@@ -9,27 +9,31 @@
 
 int dprintf(int file, const char *form, ...);
 
-/* eight bytes each: PAINTED of them below the stack's end, the paint, and what has to outlast a call (one at a time: the driver has no threads) */
-__asm__(".set PAINTED, 32768\n"
-        ".set PAINT, 0x5A5A5A5A5A5A5A5A\n"
+/*
+ * eight bytes each: the paint, how many of them are painted below the stack's end (a plan goes deep, and a call that goes past the paint counts as all
+ * of it), and what has to outlast a call (one at a time: the driver has no threads)
+ */
+__asm__(".set PAINT, 0x5A5A5A5A5A5A5A5A\n"
+        ".set SOME, 1024\n"
+        ".set MANY, 16384\n"
         ".lcomm stack_kept, 64\n"
-        ".macro through name, place\n"
+        ".macro through name, place, painted\n"
         "    .globl __wrap_\\name\n"
         "    .type __wrap_\\name, @function\n"
         "__wrap_\\name:\n"
         "    popq stack_kept+48(%rip)\n"
         "    movq %rdi, stack_kept(%rip)\n"
         "    movq %rcx, stack_kept+8(%rip)\n"
-        "    leaq -8*PAINTED(%rsp), %rdi\n"
-        "    movl $PAINTED, %ecx\n"
+        "    leaq -8*\\painted(%rsp), %rdi\n"
+        "    movl $\\painted, %ecx\n"
         "    movabsq $PAINT, %rax\n"
         "    rep stosq\n"
         "    movq stack_kept(%rip), %rdi\n"
         "    movq stack_kept+8(%rip), %rcx\n"
         "    call __real_\\name@PLT\n"
         "    movq %rax, stack_kept(%rip)\n"
-        "    leaq -8*PAINTED(%rsp), %rdi\n"
-        "    movl $PAINTED, %ecx\n"
+        "    leaq -8*\\painted(%rsp), %rdi\n"
+        "    movl $\\painted, %ecx\n"
         "    movabsq $PAINT, %rax\n"
         "    repe scasq\n"
         "    leaq 8(%rsp), %rax\n"
@@ -42,16 +46,16 @@ __asm__(".set PAINTED, 32768\n"
         "    ret\n"
         ".endm\n"
         ".text\n"
-        "through tt_join_line, 0\n"
-        "through tt_replace_letter, 1\n"
-        "through tt_reorder_modifier_combining_marks, 2\n"
-        "through tt_record_stch, 3\n"
-        "through tt_stretch, 4\n"
-        "through tt_serialize_single_lookup, 5\n"
-        "through tt_serialize_ligature_lookup, 6\n"
-        "through tt_read_lookup, 7\n"
-        "through tt_fallback_plan, 8\n"
-        "through tt_do_fallback, 9\n");
+        "through tt_join_line, 0, SOME\n"
+        "through tt_replace_letter, 1, SOME\n"
+        "through tt_reorder_modifier_combining_marks, 2, SOME\n"
+        "through tt_record_stch, 3, SOME\n"
+        "through tt_stretch, 4, SOME\n"
+        "through tt_serialize_single_lookup, 5, SOME\n"
+        "through tt_serialize_ligature_lookup, 6, SOME\n"
+        "through tt_read_lookup, 7, SOME\n"
+        "through tt_fallback_plan, 8, MANY\n"
+        "through tt_do_fallback, 9, SOME\n");
 
 static const char *const names[10] = {
     "join_line",          "replace_letter",

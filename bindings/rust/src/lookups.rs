@@ -2,7 +2,7 @@
 use crate::calls;
 use crate::refusal::Refusal;
 
-/// Bytes of a plan, at most: an area of this length is never too short.
+/// Bytes of a plan, at most: an area of this length is never too short, whatever the font, the masks and the rows.
 pub const LONGEST_PLAN: usize = 61566;
 
 /// Writes a single lookup at the start of the area, and answers how many bytes it has: 18 and 4 for each rule.
@@ -120,7 +120,11 @@ impl Plan {
 /// Makes the fallback plan of a font. The masks are those of init, medi, fina, isol and rlig; a lookup with mask 0 is left out.
 ///
 /// Refused are columns that do not go with each other ([`Refusal::Uneven`]), a list of over 1,024 rows ([`Refusal::TooLong`]),
-/// codes that do not rise strictly ([`Refusal::OutOfRange`]) and an area that is too short ([`Refusal::NoRoom`]).
+/// codes that do not rise strictly ([`Refusal::OutOfRange`]) and an area that is too short ([`Refusal::NoRoom`]). An area of
+/// [`LONGEST_PLAN`] bytes never is: that is proved.
+///
+/// A plan is made on the stack of the thread that asks for it, in some 83,000 bytes, and nothing tests that they are there. No
+/// other call of this crate needs 1,000.
 pub fn fallback_plan(masks: &[u32; 5], font: FontMap<'_>, rows: Rows<'_>, area: &mut [u8]) -> Result<Plan, Refusal> {
     let (count, entry_masks, entry_lengths) = calls::fallback_plan(masks, &font, &rows, area)?;
     let entries = entry_masks.iter().zip(&entry_lengths).take(count);

@@ -22,7 +22,7 @@ use Rattle.letters.specs.Types.{U, Alaph, DalathRish, T, X, transparent, resolv
 use Rattle.letters.specs.Categories.{Cf, Me, Mn}
 use Rattle.letters.proofs.LetterLaws.{resolved-below}
 use Rattle.shapes.specs.Joining.{passed, latest, nearest, lineTypes}
-use Rattle.shapes.specs.Unicode.{common}
+use Rattle.shapes.proofs.UnicodeLaws.{common}
 use Rattle.shapes.proofs.LocalityLaws.{nearest-append, latest-append}
 use Rattle.selectors.specs.Selectors.{selector}
 use Rattle.lines.specs.Held.{Letters, Setting, Line}

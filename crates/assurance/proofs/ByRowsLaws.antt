@@ -245,7 +245,7 @@ module _ (f : Font) (s : Sound f) (l : Lent) (long : l .count * width (l .kind) 
           from = λ j g. shown f (codeAt l m j) (getD (glyphsOf m .components) j 0) (glyph-of f n (l .codes) (n * m) inside j g) (fits-at (glyphsOf m .components) (c .1) j);
           to = shown f (formAt l m) (glyphsOf m .ligature) refl (c .0);
           formed = asks-form (l .kind) (rowAt m) (a .0);
-          altered = alters-other (l .kind) (glyphsOf m) (b .1);
+          altered = λ k z. absurd (alters-other (l .kind) (glyphsOf m) (b .1) k z);
         }
 
   module _ (m : ℕ) (r : Rule) (g : Gives f l m r) where

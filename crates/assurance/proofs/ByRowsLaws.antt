@@ -1,4 +1,4 @@
--- Rules and the rows that give them: the font's glyph for a code, by places (`shows-glyph`, `glyph-shows`); the rule of a row, by the tests of the definition (`gives-tested`, `tested-gives`); the rules of rows, each with its row's number (`Numbered`, `numbered`, `numbered-ruled`); and these in order (`Before`, `rows-ordered`), by the places of a lookup (`of-rows`).
+-- Rules and the rows that give them. The font's glyph for a code, by places (`shows-glyph`, `shown`); rules with the numbers of their rows, and their order (`Numbered`, `Before`, `Pairwise`); the rule of a row, by the definition's tests (`tested-gives`, `gives-same`, `gives-tested`); the definition's rules with their rows (`numbered`, `numbered-ruled`), each given by its row (`numbered-given`) and none left out (`numbered-every`), in order (`numbered-ordered`); so its lookup is that of the rows (`of-rows`), and its entries those of lists of rows (`originOf`, `Long`, `of-lists`): there are some where a list is used (`used-some`), none where none is (`none-used`), and each is of one that is used (`list-at`).
 -- Assumes nothing.
 use mathlib.Core.Path.{_≡_, refl, sym, ap, ap₂, _∙_, subst}
 use mathlib.Core.Bool.{Bool, true, false, cond, _&&_, _||_, false≢true}
@@ -35,7 +35,7 @@ use Rattle.assurance.specs.ByRows.{Lent, codeAt, formAt, Shows, Gives, U
 use Rattle.assurance.proofs.OriginLaws.{madeOf, kept}
 
 -- ---- the font's glyph for a code
-pub shows-glyph : (f : Font) → Sound f → (c g : ℕ) → Shows f c g → glyphOf f c ≡ g
+shows-glyph : (f : Font) → Sound f → (c g : ℕ) → Shows f c g → glyphOf f c ≡ g
 shows-glyph f s c g (j, h, e, d, b) =
     glyph-at (f .codes) (f .glyphs) c j (s .even) h e (λ k q z. omega (arith, rising-lt (f .codes) (s .rises) k j q h, e, z)) ∙ d
 
@@ -87,15 +87,9 @@ fits-places ws h = fits-lent ws (λ j. go j (ltb j (length ws)) refl)
     go j true e = h j (ltb-true j (length ws) e)
     go j false e = omega (arith, List·getD-eq-default ws 0 {n = j} (ltb-false j (length ws) e))
 
-some-of : (a : ℕ) → (a ≡ 0 → ⊥) → 0 < a
-some-of a d = omega arith
-
-ne-of : (a b : ℕ) → (a ≡ b → ⊥) → b ≤ a → b < a
-ne-of a b d h = omega arith
-
 -- ---- rules with numbers, in order
 -- a rule, and the number of its row
-pub record Numbered : Type 0 where
+record Numbered : Type 0 where
   pub row : ℕ
   pub rule : Rule
 
@@ -330,7 +324,7 @@ module _ (f : Font) (s : Sound f) (l : Lent) (long : l .count * width (l .kind) 
 
       go : (t : Bool) → eqb x m ≡ t → (suc m ≤ x → List·Memᴰ (numberedOf x r) (numbered c (suc m))) → List·Memᴰ (numberedOf x r) (numbered (suc c) m)
       go true q later = here (tested m) refl (eqb-true x m q)
-      go false q later = there (tested m) (later (omega (arith, ne-of x m (eqb-false x m q) h)))
+      go false q later = there (tested m) (later (omega (arith, h, eqb-false x m q)))
 
   -- in order
   numbered-ordered : (c m : ℕ) → Pairwise (sorted keyOf (numbered c m))
@@ -402,7 +396,7 @@ module _ (f : Font) (s : Sound f) (l : Lent) (long : l .count * width (l .kind) 
 
 -- ---- the entries of lists of rows
 -- the rules of a list, as the definition has them
-abbrev pub originOf : Font → Lent → Origin
+abbrev originOf : Font → Lent → Origin
 originOf f l =
     record { mask = l .mask; flags = l .flags; kind = l .kind; rules = ruled f (l .kind) (rows (l .count) (width (l .kind)) (l .each) (l .place) (l .codes) (l .forms)) }
 
@@ -432,7 +426,7 @@ of-lists f s (l ∷ ls) p = go (eqb (l .mask) 0) (eqb (length rs) 0) refl refl (
     go true b e d r = unused (λ u. u .0 (eqb-true (l .mask) 0 e)) r
     go false true e d r = unused (no-row (eqb-true (length rs) 0 d)) r
     go false false e d r =
-        let some : 0 < length (ligatures rs) = omega (arith, count, some-of (length rs) (eqb-false (length rs) 0 d)) in
+        let some : 0 < length (ligatures rs) = omega (arith, count, eqb-false (length rs) 0 d) in
         used (eqb-false (l .mask) 0 e, (whole .rowOf 0, ruleAt (madeOf (originOf f l) .lookup) 0, whole .given 0 some)) whole r
 
 -- what is known of them: there are some exactly if a list is used, and each is of one that is

@@ -41,7 +41,7 @@ codeAt l m j = getD (l .codes) (width (l .kind) * m + j) 0
 abbrev pub formAt : Lent → ℕ → ℕ
 formAt l m = getD (l .forms) (l .each * m + l .place) 0
 
--- "A shaping row has the forms init, medi, fina, isol": the code of row m is at m, its form k at 4 * m + k. The flags pass over marks
+-- "A shaping row has the forms init, medi, fina, isol": the code of row m is at m, its form k at 4 * m + k. The flag 8 is OpenType's IGNORE_MARKS
 abbrev pub shapingRows : Inputs → ℕ → Lent
 shapingRows i k =
     record { mask = getD (i .masks) k 0; flags = 8; kind = Single; count = length (i .shaping); codes = i .shaping; forms = i .forms; each = 4; place = k }
@@ -51,7 +51,7 @@ abbrev pub ligatureRows : Inputs → ℕ → ℕ → Ligatures → Lent
 ligatureRows i flags n list =
     record { mask = getD (i .masks) 4 0; flags = flags; kind = Ligature n; count = length (list .ligatures); codes = list .components; forms = list .ligatures; each = 1; place = 0 }
 
--- "The ligature lists have N 3, 2, 2"; those of marks do not pass over marks
+-- init, medi, fina, isol; "The ligature lists have N 3, 2, 2", and that of marks does not ignore marks
 abbrev pub sevenLists : Inputs → List Lent
 sevenLists i =
     shapingRows i 0 ∷ shapingRows i 1 ∷ shapingRows i 2 ∷ shapingRows i 3 ∷

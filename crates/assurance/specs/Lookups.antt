@@ -31,7 +31,7 @@ NeverFive =
     × (said (r .verdict) ≡ 0 → (before : List Entry) (e : Entry) (behind : List Entry) → plan i ≡ before ++ (e ∷ behind)
     → (writeRefusal (e .lookup) (sizeOf e) ≡ 0) × (sizeOf e ≤ longest))
 
--- the bytes of the longest plan, as the C header has them (TT_LONGEST_PLAN): an upper bound, that is met where each of the four lists has 1,024 rows, every row gives its rules, and no two first glyphs of a list are equal
+-- the bytes of the longest plan, as the C header has them (TT_LONGEST_PLAN): an upper bound, and met where no mask is 0, each of the four lists has 1,024 rows, every row gives its rules, and no two first glyphs of a list are equal
 abbrev pub roomForAny : ℕ
 roomForAny = 61566
 

@@ -1,18 +1,19 @@
--- An entry of an accepted plan (`Good`, `plan-good`): it is made of an origin, the writer does not refuse its lookup, the reader reads it as it is, and it is no longer than a plan's lookups are. The entries are made of the origins in their order (`plan-made`). The bytes and the mask of each are found by what is answered (`bytes-at`, `number-at`).
+-- An entry of an accepted plan (`Good`, `plan-good`): it is made of an origin, the writer does not refuse its lookup, the reader reads it as it is, and it is no longer than a plan's lookups are. The entries are made of the origins in their order (`plan-made`), and all together have no more bytes than the longest plan (`plan-size`). The bytes and the mask of each are found by what is answered (`bytes-at`, `number-at`).
 -- Assumes nothing.
 use mathlib.Core.Path.{_≡_, refl, sym, ap, ap₂, _∙_}
 use mathlib.Core.Bool.{Bool, true, false, cond, _||_}
 use mathlib.Core.Logic.{_⊎_, inl, inr}
 use mathlib.Core.List.{List, [], _∷_, _++_, map, append-assoc, map-append, List·Memᴰ, List·Memᴰ·head, List·Memᴰ·tail}
-use Prim.Native.Nat.{ℕ, _*_, _≤_}
+use Prim.Native.Nat.{ℕ, _+_, _*_, _≤_}
 use native.Mathlib.Omega.{arith}
 use native.Mathlib.Nat.{mul-le-mul-right}
 use borrow.Author.Tests.{lt-ltb, eqb-true, eqb-false}
 use lib.Dec.{eqb}
-use lib.ListN.{length, getD, take, drop, length-map}
+use lib.ListN.{length, getD, take, drop, length-append, length-map}
 use lib.Seq.{take-at, drop-at, getD-at}
 use Rattle.laws.proofs.TestLaws.{neither}
 use Rattle.refusals.specs.Columns.{rising}
+use Rattle.words.proofs.WordLaws.{length-bytes}
 use Rattle.layouts.specs.declared.Kind.{Kind}
 use Rattle.layouts.specs.declared.Kind.the-variants.{Single, Ligature}
 use Rattle.layouts.specs.Tables.{Rule, first}
@@ -25,11 +26,13 @@ use Rattle.ordering.proofs.KeyLaws.{Each, each-append, each-parts}
 use Rattle.ordering.proofs.OrderLaws.{sorted-stable, length-sorted, each-sorted}
 use Rattle.packing.proofs.PackLaws.{length-flat, rules-flat}
 use Rattle.synthesis.specs.Rules.{inOrder}
-use Rattle.drafts.specs.Entries.{Entry, bytesOf, sizeOf, allBytes, seven, padded, ruleLimit, most}
+use Rattle.drafts.specs.Entries.{Entry, bytesOf, sizeOf, allBytes, seven, padded, ruleLimit, most, longestPlan}
 use Rattle.drafts.proofs.EntryLaws.{all-append}
 use Rattle.drafts.proofs.RoomLaws.{few-allowed}
-use Rattle.fallback.specs.Plan.{Inputs, plan}
-use Rattle.assurance.specs.Origins.{Origin, origins, rulesOf, From, Made, end, used, skipped}
+use Rattle.windows.specs.Windows.{signed}
+use Rattle.fallback.specs.Plan.{Inputs, unicode, plan}
+use Rattle.fallback.specs.Planned.{even as together, short}
+use Rattle.assurance.specs.Origins.{Origin, lent, tables, origins, rulesOf, From, Made, end, used, skipped}
 use Rattle.assurance.specs.Planning.{total}
 use Rattle.assurance.specs.Lookups.{longest, mostGlyphs}
 use Rattle.assurance.proofs.OriginLaws.{madeOf, entryOf, kept, plan-kept, Sound, Ready, origins-ready}
@@ -138,6 +141,15 @@ module _ (o : Origin) (q : Ready o) where
       go true e = tt
       go false e = (made-good os m (eqb-false (length rs) 0 (neither (eqb (o .mask) 0) (eqb (length rs) 0) e .1)), tt)
 
+  -- its bytes
+  entry-size : length (allBytes (entryOf o)) ≤ most (o .kind)
+  unfolding allBytes
+  entry-size = go (eqb (o .mask) 0 || eqb (length rs) 0)
+    where
+      go : (t : Bool) → length (allBytes (cond t [] (madeOf o ∷ []))) ≤ most (o .kind)
+      go true = omega arith
+      go false = omega (arith, length-append (bytesOf (madeOf o)) [], length-bytes (wordsOf (madeOf o .lookup)), written .enough)
+
 kept-good : (all os : List Origin) → ((o : Origin) → List·Memᴰ o os → List·Memᴰ o all) → Each Ready os → Each (Good all) (kept os)
 kept-good all [] f q = tt
 kept-good all (o ∷ os) f q =
@@ -164,6 +176,25 @@ pub plan-good : (i : Inputs) (room : ℕ) → Passed i room → (before : List E
 plan-good i room p before e behind s =
     let all : Each (Good (origins i)) (plan i) = rw plan-kept (kept-good (origins i) (origins i) (λ o m. m) (origins-ready i (p .belong) (p .limited))) in
     each-parts (Good (origins i)) before (e ∷ behind) (rw s at all) .1 .0
+
+-- ---- the bytes of all entries
+abbrev mostOf : List Origin → ℕ
+mostOf [] = 0
+mostOf (o ∷ os) = most (o .kind) + mostOf os
+
+kept-size : (os : List Origin) → Each Ready os → length (allBytes (kept os)) ≤ mostOf os
+unfolding allBytes
+kept-size [] q = omega arith
+kept-size (o ∷ os) q =
+    omega (arith, ap length (all-append (entryOf o) (kept os)), length-append (allBytes (entryOf o)) (allBytes (kept os)), entry-size o (q .0), kept-size os (q .1))
+
+pub plan-size : (i : Inputs) → together i ≡ true → short i ≡ true → length (allBytes (plan i)) ≤ longestPlan
+plan-size i e s = rw plan-kept (omega (arith, kept-size (origins i) (origins-ready i e s), go (eqb (length (unicode i)) 0) (signed (i .font))))
+  where
+    go : (t u : Bool) → mostOf (cond t (cond u (tables (i .masks)) []) (lent i)) ≤ longestPlan
+    go true true = omega arith
+    go true false = omega arith
+    go false u = omega arith
 
 -- ---- by what is answered
 module _ (before : List Entry) (e : Entry) (behind : List Entry) where

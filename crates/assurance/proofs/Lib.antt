@@ -5,3 +5,5 @@ pub mod PlanLaws
 pub mod PlanningHolds
 pub mod EntryLaws
 pub mod LookupsHold
+pub mod ByRowsLaws
+pub mod ByRowsHold

@@ -1,10 +1,11 @@
--- The promises of the lookups of a plan hold.
+-- The promises of the lookups of a plan hold. What is read at a place is the plan's entry there (`place-read`).
 -- Assumes nothing.
-use mathlib.Core.Path.{_≡_, refl, sym, ap, _∙_, subst}
+use mathlib.Core.Path.{_≡_, refl, sym, ap, ap₂, _∙_, subst}
 use mathlib.Core.Bool.{Bool, true, false, cond, not}
 use mathlib.Core.List.{List, [], _∷_, _++_}
 use Prim.Native.Nat.{ℕ, _+_, _*_, _<_, _≤_}
 use native.Mathlib.Omega.{arith}
+use borrow.Author.Tests.{ltb-true}
 use lib.Dec.{ltb}
 use lib.ListN.{length, getD, take, drop, take-append-drop}
 use lib.Seq.{take-at, length-take-le}
@@ -23,18 +24,17 @@ use Rattle.layouts.proofs.WrittenLaws.{none-given}
 use Rattle.scanning.specs.Exact.{asRead, Readable}
 use Rattle.reading.specs.declared.Answer.{Answer}
 use Rattle.reading.specs.Read.{Columns, numberSaid, Reading}
-use Rattle.ordering.specs.Order.{Stable}
 use Rattle.ordering.proofs.OrderLaws.{stable-once}
-use Rattle.drafts.specs.Entries.{Entry, bytesOf, sizeOf, allBytes, masksOf, lengthsOf}
+use Rattle.drafts.specs.Entries.{Entry, bytesOf, sizeOf, allBytes, masksOf, lengthsOf, ruleLimit}
 use Rattle.fallback.specs.declared.FallbackPlan.{FallbackPlan}
 use Rattle.fallback.specs.Plan.{Inputs, plan}
 use Rattle.fallback.specs.Planned.{even, short, planRefusal, Planning}
 use Rattle.fidelity.specs.Reading.{lookupSaid}
 use Rattle.fidelity.proofs.ReadingHolds.{reads-back}
-use Rattle.assurance.specs.Origins.{Origin, origins, rulesOf, From}
-use Rattle.assurance.specs.Lookups.{longest, NeverFive, FollowsTheOrder, InStableOrder, cutOut, EveryLookupReadsBack, EveryPlaceReads}
+use Rattle.assurance.specs.Origins.{origins, rulesOf, From}
+use Rattle.assurance.specs.Lookups.{longest, NeverFive, NeverTooShort, FollowsTheOrder, InStableOrder, cutOut, mostGlyphs, EveryLookupReadsBack, EveryPlaceReads}
 use Rattle.assurance.proofs.PlanningHolds.{number-given, plans, not-refused, area-left}
-use Rattle.assurance.proofs.EntryLaws.{Good, plan-made, plan-good, number-at, bytes-at}
+use Rattle.assurance.proofs.EntryLaws.{Good, plan-made, plan-good, plan-size, number-at, bytes-at}
 
 -- ---- a lookup that the writer does not refuse
 module _ (l : Lookup) (q : Readable l) where
@@ -95,6 +95,30 @@ module _ (i : Inputs) (area : List ℕ) (r : FallbackPlan) (left : List ℕ) (x 
 pub never-five : NeverFive
 never-five i area r left x = (λ e. never-given i (length area) (sym (number-given i area r left x) ∙ e), written i area r left x)
 
+-- 8 is given behind 1 and 2 only
+eight-given : (i : Inputs) (room : ℕ) → planRefusal i room ≡ 8 → (even i ≡ true) × (short i ≡ true) × (room < length (allBytes (plan i)))
+unfolding planRefusal
+eight-given i room e = go (even i) (short i) (rising 1 (i .font .codes)) (ltb room (length (allBytes (plan i)))) refl refl refl e
+  where
+    go :
+        (a b c d : Bool) → even i ≡ a → short i ≡ b → ltb room (length (allBytes (plan i))) ≡ d
+        → _≡_ {A = ℕ} (cond (not a) 1 (cond (not b) 2 (cond (not c) 3 (cond d 8 0)))) 8
+        → (even i ≡ true) × (short i ≡ true) × (room < length (allBytes (plan i)))
+    go false b c d p q u e = absurd (omega arith)
+    go true false c d p q u e = absurd (omega arith)
+    go true true false d p q u e = absurd (omega arith)
+    go true true true false p q u e = absurd (omega arith)
+    go true true true true p q u e = (p, q, ltb-true room (length (allBytes (plan i))) u)
+
+-- and behind them no plan is longer
+pub never-too-short : NeverTooShort
+never-too-short = (
+  refl,
+  λ i area r left x h e.
+      let g = eight-given i (length area) (sym (number-given i area r left x) ∙ e) in
+      omega (arith, h, g .2, plan-size i (g .0) (g .1)),
+)
+
 pub follows-the-order : FollowsTheOrder
 follows-the-order i area r left x z = plan-made i (length area) (not-refused i area r left x z)
 
@@ -108,30 +132,32 @@ every-lookup-reads-back = read
 
 -- ---- by its place
 -- stands past the end of a list
-none : Entry
+pub none : Entry
 none = record { mask = 0; lookup = lookupOf 0 Single [] [] }
 
 parted : (es : List Entry) (k : ℕ) → k < length es → es ≡ take k es ++ (getD es k none ∷ drop (k + 1) es)
 parted es k h = sym (take-append-drop k es) ∙ ap (λ (l : List Entry). take k es ++ l) (drop-next es k none h)
 
-same-from : (o : Origin) (e d : Entry) → d .mask ≡ e .mask → d .lookup ≡ e .lookup → From o e → From o d
-same-from o e d m l f =
-    record {
-      masked = m ∙ f .masked;
-      flagged = ap (λ (k : Lookup). k .flags) l ∙ f .flagged;
-      named = ap (λ (k : Lookup). k .kind) l ∙ f .named;
-      ordered = subst (λ (k : Lookup). Stable first (o .rules) (rulesOf k)) (sym l) (f .ordered);
-    }
+module _ (i : Inputs) (area : List ℕ) (r : FallbackPlan) (left : List ℕ) (x : Planning i area r left) (z : said (r .verdict) ≡ 0) (k : ℕ) (h : k < r .count) where
+  pub place-inside : k < length (plan i)
+  place-inside = omega (arith, plans i area r left x z .counted)
+
+  place-good : Good (origins i) (getD (plan i) k none)
+  place-good = good i area r left x z (take k (plan i)) (getD (plan i) k none) (drop (k + 1) (plan i)) (parted (plan i) k place-inside)
+
+  -- what is read there is the entry of that place
+  pub place-read :
+      (c : Columns) → mostGlyphs ≤ length (c .glyphs) → ruleLimit ≤ length (c .substitutes) → (a : Answer) (list : Columns) → Reading (cutOut k r left) c a list
+      → (numberSaid a ≡ 0) × (getD (plan i) k none ≡ record { mask = getD (r .masks) k 0; lookup = lookupSaid a list })
+  place-read c g t a list y =
+      let es : List Entry = plan i in
+      let place : length (take k es) ≡ k = length-take-le k es (omega (arith, place-inside)) in
+      let back = read i area r left x z (take k es) (getD es k none) (drop (k + 1) es) (parted es k place-inside) c (omega (arith, place-good .glyphs)) (omega (arith, place-good .substitutes)) a list (rw place y) in
+      let answered : getD (r .masks) k 0 ≡ getD es k none .mask = ap (λ (n : ℕ). getD (r .masks) n 0) (sym place) ∙ back .2 in
+      (back .0, ap₂ (λ (m : ℕ) (l : Lookup). record { mask = m; lookup = l }) (sym answered) (sym (back .1)))
 
 pub every-place-reads : EveryPlaceReads
 every-place-reads i area r left x z k h c g t a list y =
-    let es : List Entry = plan i in
-    let inside : k < length es = omega (arith, plans i area r left x z .counted) in
-    let e : Entry = getD es k none in
-    let s : es ≡ take k es ++ (e ∷ drop (k + 1) es) = parted es k inside in
-    let place : length (take k es) ≡ k = length-take-le k es (omega arith) in
-    let p : Good (origins i) e = good i area r left x z (take k es) e (drop (k + 1) es) s in
-    let back = read i area r left x z (take k es) e (drop (k + 1) es) s c (omega (arith, p .glyphs)) (omega (arith, p .substitutes)) a list (rw place y) in
-    let o = p .origin in
-    let answered : getD (r .masks) k 0 ≡ e .mask = ap (λ (n : ℕ). getD (r .masks) n 0) (sym place) ∙ back .2 in
-    (back .0, (o .0, o .1, same-from (o .0) e (record { mask = getD (r .masks) k 0; lookup = lookupSaid a list }) answered (back .1) (o .2)))
+    let o = place-good i area r left x z k h .origin in
+    let back = place-read i area r left x z k h c g t a list y in
+    (back .0, (o .0, o .1, subst (From (o .0)) (back .1) (o .2)))

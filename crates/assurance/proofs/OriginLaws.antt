@@ -1,4 +1,4 @@
--- A plan is its origins' entries, in their order (`kept`, `plan-kept`): at most seven (`plan-few`). What each origin of a plan that is not refused has (`Sound`, `Ready`, `origins-ready`): rules of its kind's width, their numbers of 16 bits, and at most 1,024 of them.
+-- A plan is its origins' entries, in their order (`kept`, `unicode-kept`, `plan-kept`): at most seven (`plan-few`). What each origin of a plan that is not refused has (`Sound`, `Ready`, `origins-ready`): rules of its kind's width, their numbers of 16 bits, and at most 1,024 of them.
 -- Assumes nothing.
 use mathlib.Core.Path.{_≡_, refl}
 use mathlib.Core.Bool.{Bool, true, false, cond, _&&_, _||_}
@@ -50,7 +50,7 @@ windows-kept masks =
       append-nil,
     )
 
-unicode-kept : (i : Inputs) → unicode i ≡ kept (lent i)
+pub unicode-kept : (i : Inputs) → unicode i ≡ kept (lent i)
 unicode-kept i = rw append-nil
 
 pub plan-kept : (i : Inputs) → plan i ≡ kept (origins i)

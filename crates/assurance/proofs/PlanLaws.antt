@@ -18,6 +18,7 @@ use Rattle.assurance.specs.Planning.{total}
 pub record Passed (i : Inputs) (room : ℕ) : Type 0 where
   pub belong : even i ≡ true
   pub limited : short i ≡ true
+  pub rises : rising 1 (i .font .codes) ≡ true
   pub enough : length (allBytes (plan i)) ≤ room
 
 pub passed : (i : Inputs) (room : ℕ) → planRefusal i room ≡ 0 → Passed i room
@@ -27,7 +28,7 @@ passed i room z =
     let b = first-none 1 (not (short i)) (drop 2 (planRows i room)) (a .1) in
     let c = first-none 2 (not (rising 1 (i .font .codes))) (drop 3 (planRows i room)) (b .1) in
     let d = first-none 7 (ltb room (length (allBytes (plan i)))) [] (c .1) in
-    record { belong = not-false _ (a .0); limited = not-false _ (b .0); enough = ltb-false _ _ (d .0) }
+    record { belong = not-false _ (a .0); limited = not-false _ (b .0); rises = not-false _ (c .0); enough = ltb-false _ _ (d .0) }
 
 -- ---- what is said of entries in seven places
 pub total-append : (a b : List ℕ) → total (a ++ b) ≡ total a + total b

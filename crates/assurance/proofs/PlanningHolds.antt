@@ -125,7 +125,7 @@ past-the-answer = past
 
 -- ---- which lookups are planned
 module _ (i : Inputs) where
-  plan-unicode : 0 < length (unicode i) → plan i ≡ unicode i
+  pub plan-unicode : 0 < length (unicode i) → plan i ≡ unicode i
   unfolding plan
   plan-unicode h = rw (ne-eqb (length (unicode i)) 0 (λ z. omega (arith, h, z)))
 

@@ -3,3 +3,4 @@
 pub mod Origins
 pub mod Planning
 pub mod Lookups
+pub mod ByRows

@@ -1,4 +1,4 @@
--- What the lookups of an accepted plan promise, by the statement of the call (`Planning` of crate fallback) and that of the reader (`Reading` of crate reading): `longest`, `NeverFive` that each can be written; `FollowsTheOrder`, `InStableOrder` which there are, of which rules each is made, and in which order; `cutOut`, `EveryLookupReadsBack` that each is read back from the area; `mostGlyphs`, `EveryPlaceReads` the same, said of the answer alone.
+-- What the lookups of an accepted plan promise, by the statement of the call (`Planning` of crate fallback) and that of the reader (`Reading` of crate reading): `longest`, `NeverFive` that each can be written; `roomForAny`, `NeverTooShort` that all of them go into an area of the header's size; `FollowsTheOrder`, `InStableOrder` which there are, of which rules each is made, and in which order; `cutOut`, `EveryLookupReadsBack` that each is read back from the area; `mostGlyphs`, `EveryPlaceReads` the same, said of the answer alone.
 -- Assumes nothing.
 use mathlib.Core.Path.{_≡_}
 use mathlib.Core.List.{List, _∷_, _++_, List·Memᴰ}
@@ -8,7 +8,7 @@ use Rattle.refusals.specs.Numbers.{said}
 use Rattle.layouts.specs.Tables.{Rule, first}
 use Rattle.layouts.specs.Written.{writeRefusal}
 use Rattle.ordering.specs.Order.{Stable}
-use Rattle.drafts.specs.Entries.{Entry, sizeOf, ruleLimit}
+use Rattle.drafts.specs.Entries.{Entry, sizeOf, ruleLimit, longestPlan}
 use Rattle.fallback.specs.declared.FallbackPlan.{FallbackPlan}
 use Rattle.fallback.specs.Plan.{Inputs, plan}
 use Rattle.fallback.specs.Planned.{Planning}
@@ -30,6 +30,16 @@ NeverFive =
     → (said (r .verdict) ≡ 5 → ⊥)
     × (said (r .verdict) ≡ 0 → (before : List Entry) (e : Entry) (behind : List Entry) → plan i ≡ before ++ (e ∷ behind)
     → (writeRefusal (e .lookup) (sizeOf e) ≡ 0) × (sizeOf e ≤ longest))
+
+-- the bytes of the longest plan, as the C header has them (TT_LONGEST_PLAN): an upper bound, and met where no mask is 0, each of the four lists has 1,024 rows, every row gives its rules, and no two first glyphs of a list are equal
+abbrev pub roomForAny : ℕ
+roomForAny = 61566
+
+-- An area of that many bytes is never too short: lent one, no call is refused with 8, whatever else is lent. The memory in which code makes a plan has the same size (`longestPlan`).
+abbrev pub NeverTooShort : Type 0
+NeverTooShort =
+    (longestPlan ≡ roomForAny)
+    × ((i : Inputs) (area : List ℕ) (r : FallbackPlan) (left : List ℕ) → Planning i area r left → roomForAny ≤ length area → said (r .verdict) ≡ 8 → ⊥)
 
 -- ---- of which rules, and in which order
 -- "The plan follows 001's order, zero masks skipped": each of its origins that has a mask and a rule is planned, in their order, and no other.

@@ -1,4 +1,4 @@
--- The rule of one row: of a shaping row, by what the search for its two glyphs answers (`single-zero`, `single-no-form`, `single-no-glyph`, `single-equal`, `single-made`); of a ligature row, whose components are packed from the last on (`Packing`, `packing-begins`, `packing-next`, `packing-fits`, `packing-stops`, `packing-ends`, `ligature-missing`); of a row of either kind (`kind-single`, `kind-ligature`); put at a place of a column (`keep-one`, `keep-none`).
+-- The rule of one row: of a shaping row, by what the search for its two glyphs answers (`single-zero`, `single-no-form`, `single-no-glyph`, `single-equal`, `single-made`); of a ligature row, whose components have these glyphs (`glyphsAt`, `length-glyphs`, `glyph-of`) and are packed from the last on (`Packing`, `packing-begins`, `packing-next`, `packing-fits`, `packing-stops`, `packing-ends`, `ligature-missing`); of a row of either kind (`kind-single`, `kind-ligature`); put at a place of a column (`keep-one`, `keep-none`).
 -- Assumes nothing.
 use mathlib.Core.Path.{_≡_, refl, sym, ap, ap₂, _∙_}
 use mathlib.Core.Bool.{Bool, true, false}
@@ -67,10 +67,10 @@ pub record Packing (f : Font) (n : ℕ) (cs : List ℕ) (at target k x : ℕ) : 
   pub made : x ≡ packed (drop k (glyphsAt f n cs at)) target
 
 module _ (f : Font) (n : ℕ) (cs : List ℕ) (at : ℕ) (room : at + n ≤ length cs) where
-  length-glyphs : length (glyphsAt f n cs at) ≡ n
+  pub length-glyphs : length (glyphsAt f n cs at) ≡ n
   length-glyphs = length-map (take n (drop at cs)) (glyphOf f) ∙ length-take-le n (drop at cs) (simp length-drop (omega arith))
 
-  glyph-of : (j : ℕ) → j < n → getD (glyphsAt f n cs at) j 0 ≡ glyphOf f (getD cs (at + j) 0)
+  pub glyph-of : (j : ℕ) → j < n → getD (glyphsAt f n cs at) j 0 ≡ glyphOf f (getD cs (at + j) 0)
   glyph-of j h =
       map-at (glyphOf f) (take n (drop at cs)) j (omega (arith, length-take-le n (drop at cs) (simp length-drop (omega arith))))
       ∙ ap (glyphOf f) (getD-take n (drop at cs) j 0 h ∙ getD-drop at cs j 0)

@@ -1,5 +1,6 @@
 -- Each promise, proved.
 -- Assumes nothing.
+pub mod CoverLaws
 pub mod ExamplesHold
 pub mod JoiningHolds
 pub mod MarksHold
@@ -10,5 +11,7 @@ pub mod RangeLaws
 pub mod RecordingHolds
 pub mod ReplacingHolds
 pub mod StretchingHolds
+pub mod TileLaws
+pub mod TilesHold
 pub mod WholeLaws
 pub mod WorkedLaws

@@ -1,4 +1,4 @@
--- Of the stretched line by places: sums over places (`total-same`, `total-last`); the records that runs add, as such a sum (`addedIn`, `added-places`); where the run that begins at a place comes (`run-at`); the records of a run that is placed (`run-stands`).
+-- Of the stretched line by places: sums over places (`total-same`, `total-last`); the records that runs add, as such a sum (`addedIn`, `added-places`); where a record comes that is no tile (`plain-at`), and the run that begins at a place (`run-at`); the records of a run that is placed (`run-stands`).
 -- Assumes nothing.
 use mathlib.Core.Path.{_≡_, refl, sym, ap, ap₂, _∙_}
 use mathlib.Core.Bool.{Bool, true, false, cond, not, _&&_, true≢false, and-false}
@@ -8,7 +8,7 @@ use native.Mathlib.Omega.{arith}
 use borrow.Author.Tests.{lt-ltb}
 use lib.Dec.{ltb}
 use lib.ListN.{length, getD, drop, replicate, length-append, List·getD-append}
-use lib.Seq.{getD-append-add}
+use lib.Seq.{getD-append-seam, getD-append-add}
 use lib.IntN.{ℤ, pos, +ℤ-idr}
 use Rattle.fitting.specs.Saturating.{clamped, satAdd, satSub}
 use Rattle.fitting.proofs.SignedLaws.{clamp-id, sat-add-fits, sat-sub-fits}
@@ -74,22 +74,19 @@ here-in l n = total-same (addedIn false l) (addedHere l) n (λ k h. ap (λ (b : 
 pub added-places : (l : List Record) → recordsAdded false l ≡ total (addedHere l) (length l)
 added-places l = added-in false l ∙ here-in l (length l)
 
--- ---- where a run comes in the work
--- the work is what comes before the run that begins at a place, that run, and what is left then; inside a run its tiles do not count
-record Split (rtl inside : Bool) (l : List Record) (i : ℕ) : Type 0 where
+-- ---- where a record comes in the work
+-- the work is what comes before a place of the line, and the rest of it; inside a run its tiles do not count
+record Split (rtl inside : Bool) (l : List Record) (i : ℕ) (rest : List Record) : Type 0 where
   before : List Record
-  parts : worked rtl inside l ≡ before ++ (placedRun rtl (drop i l) ++ worked rtl true (drop i l))
+  parts : worked rtl inside l ≡ before ++ rest
   long : length before + cond inside (length (run l)) 0 ≡ i + total (addedIn inside l) i
 
-split : (rtl inside : Bool) (l : List Record) (i : ℕ) → starts inside l i ≡ true → Split rtl inside l i
+-- by one record more
+split-more : (rtl inside : Bool) (r : Record) (rs : List Record) (i : ℕ) (rest : List Record) → Split rtl (isTile r) rs i rest → Split rtl inside (r ∷ rs) (suc i) rest
 unfolding worked
-split rtl inside [] zero e = absurd (true≢false (sym e ∙ and-false (not inside)))
-split rtl inside [] (suc i) e = absurd (true≢false (sym e ∙ and-false (not (tileFirst (drop i [])))))
-split rtl true (r ∷ rs) zero e = absurd (true≢false (sym e))
-split rtl false (r ∷ rs) zero e = record { before = []; parts = rw e; long = refl }
-split rtl inside (r ∷ rs) (suc i) e = go (isTile r) refl inside (split rtl (isTile r) rs i (sym (starts-more inside r rs i) ∙ e)) (added-more inside r rs i)
+split-more rtl inside r rs i rest x = go (isTile r) refl inside x (added-more inside r rs i)
   where
-    go : (t : Bool) → isTile r ≡ t → (n : Bool) → Split rtl t rs i → total (λ (k : ℕ). addedIn n (r ∷ rs) (suc k)) i ≡ total (addedIn t rs) i → Split rtl n (r ∷ rs) (suc i)
+    go : (t : Bool) → isTile r ≡ t → (n : Bool) → Split rtl t rs i rest → total (λ (k : ℕ). addedIn n (r ∷ rs) (suc k)) i ≡ total (addedIn t rs) i → Split rtl n (r ∷ rs) (suc i) rest
     go true f true s a =
         let tiled : length (run (r ∷ rs)) ≡ suc (length (run rs)) = rw f in
         record { before = s .before; parts = rw f (s .parts); long = omega (arith, s .long, a, tiled) }
@@ -97,10 +94,9 @@ split rtl inside (r ∷ rs) (suc i) e = go (isTile r) refl inside (split rtl (is
         let l = r ∷ rs in
         let tiled : length (run l) ≡ suc (length (run rs)) = rw f in
         let first : addedIn false l 0 ≡ copiesOf l * tiles l = rw f in
-        let behind = placedRun rtl (drop i rs) ++ worked rtl true (drop i rs) in
         record {
           before = placedRun rtl l ++ s .before;
-          parts = rw f (ap (λ (m : List Record). placedRun rtl l ++ m) (s .parts) ∙ sym (append-assoc (placedRun rtl l) (s .before) behind));
+          parts = rw f (ap (λ (m : List Record). placedRun rtl l ++ m) (s .parts) ∙ sym (append-assoc (placedRun rtl l) (s .before) rest));
           long = omega (arith, s .long, a, tiled, first, length-append (placedRun rtl l) (s .before), length-run rtl l);
         }
     go false f n s a =
@@ -116,11 +112,41 @@ split rtl inside (r ∷ rs) (suc i) e = go (isTile r) refl inside (split rtl (is
         at true h z = omega (arith, h, z)
         at false h z = omega (arith, h)
 
+-- at a place where a run begins
+split-run : (rtl inside : Bool) (l : List Record) (i : ℕ) → starts inside l i ≡ true → Split rtl inside l i (placedRun rtl (drop i l) ++ worked rtl true (drop i l))
+unfolding worked
+split-run rtl inside [] zero e = absurd (true≢false (sym e ∙ and-false (not inside)))
+split-run rtl inside [] (suc i) e = absurd (true≢false (sym e ∙ and-false (not (tileFirst (drop i [])))))
+split-run rtl true (r ∷ rs) zero e = absurd (true≢false (sym e))
+split-run rtl false (r ∷ rs) zero e = record { before = []; parts = rw e; long = refl }
+split-run rtl inside (r ∷ rs) (suc i) e = split-more rtl inside r rs i _ (split-run rtl (isTile r) rs i (sym (starts-more inside r rs i) ∙ e))
+
+-- at a record that is no tile
+split-plain : (rtl inside : Bool) (l : List Record) (i : ℕ) → i < length l → tileFirst (drop i l) ≡ false → Split rtl inside l i (getD l i blank ∷ worked rtl false (drop (suc i) l))
+split-plain rtl inside [] i h e = absurd (omega arith)
+split-plain rtl inside (r ∷ rs) zero h e =
+    let none : length (run (r ∷ rs)) ≡ 0 = rw e in
+    record { before = []; parts = worked-plain r rs e rtl inside; long = at inside none }
+  where
+    at : (n : Bool) → length (run (r ∷ rs)) ≡ 0 → 0 + cond n (length (run (r ∷ rs))) 0 ≡ 0 + 0
+    at true z = omega (arith, z)
+    at false z = refl
+split-plain rtl inside (r ∷ rs) (suc i) h e = split-more rtl inside r rs i _ (split-plain rtl (isTile r) rs i (omega arith) e)
+
+-- a record of the line that is no tile: its place in the work
+pub plain-at : (rtl : Bool) (l : List Record) (i : ℕ) → i < length l → tileFirst (drop i l) ≡ false
+    → (i + total (addedHere l) i < length (worked rtl false l)) × (getD (worked rtl false l) (i + total (addedHere l) i) blank ≡ getD l i blank)
+plain-at rtl l i h e =
+    let s = split-plain rtl false l i h e in
+    let B = worked rtl false (drop (suc i) l) in
+    let n : i + total (addedHere l) i ≡ length (s .before) = omega (arith, s .long, here-in l i) in
+    rw (n, s .parts) (omega (arith, length-append (s .before) (getD l i blank ∷ B)), getD-append-seam (s .before) (getD l i blank) B blank)
+
 -- the k-th record of the run that begins at place i of the line: its place in the work, and that there is one
 pub run-at : (rtl : Bool) (l : List Record) (i : ℕ) → begins l i ≡ true → (k : ℕ) → k < length (placedRun rtl (drop i l))
     → (i + total (addedHere l) i + k < length (worked rtl false l)) × (getD (worked rtl false l) (i + total (addedHere l) i + k) blank ≡ getD (placedRun rtl (drop i l)) k blank)
 run-at rtl l i e k h =
-    let s = split rtl false l i (starts-begins l i ∙ e) in
+    let s = split-run rtl false l i (starts-begins l i ∙ e) in
     let R = placedRun rtl (drop i l) in
     let B = worked rtl true (drop i l) in
     let n : i + total (addedHere l) i ≡ length (s .before) = omega (arith, s .long, here-in l i) in

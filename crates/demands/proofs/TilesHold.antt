@@ -18,10 +18,10 @@ use Rattle.runs.proofs.StretchedLaws.{length-placed}
 use Rattle.stretching.specs.declared.Answer.{Answer}
 use Rattle.stretching.specs.Stretching.{Request, numberSaid, lengthSaid, Stretching}
 use Rattle.demands.specs.Stretching.{records}
-use Rattle.demands.specs.Tiles.{total, tileFirst, begins, Copied, Lapped, Numbered, OneNumber, addedAt, CountByPlaces, comes, TilesStand}
+use Rattle.demands.specs.Tiles.{total, tileFirst, begins, Copied, Lapped, Numbered, OneNumber, addedAt, CountByPlaces, comes, OthersCome, TilesStand}
 use Rattle.demands.proofs.StretchingHolds.{count-left, records-left, line-recorded, count-added}
 use Rattle.demands.proofs.CoverLaws.{Reckoned, covers-one, run-reckoned}
-use Rattle.demands.proofs.TileLaws.{total-same, addedHere, added-places, run-at, run-stands}
+use Rattle.demands.proofs.TileLaws.{total-same, addedHere, added-places, plain-at, run-at, run-stands}
 
 -- ---- the numbers of a run
 abbrev Run : List Record → ℕ → ℕ → Type 0
@@ -111,6 +111,16 @@ module _ (q : Request) (output : Columns) (r : Answer) (left : Columns) (x : Str
       ∙ getD-in-order (q .rtl) m k blank b
       ∙ ap (λ (n : ℕ). getD m (partOf (q .rtl) n k 1) blank) long-left
       ∙ getD-listed (recordAt left) (lengthSaid r) (partOf (q .rtl) (lengthSaid r) k 1) blank (spot-below (q .rtl) (lengthSaid r) k (omega (arith, b, long-left))))
+
+pub others-come : OthersCome
+unfolding partOf
+others-come q output r left x z e copies h i b f =
+    let w = work (q .rtl) (q .line) in
+    let a = plain-at (q .rtl) w i (omega (arith, b, length-work (q .rtl) (q .line))) f in
+    ap (λ (s : ℕ). comes (q .rtl) (lengthSaid r) left (i + s)) (sym (sum-named w copies h i))
+    ∙ output-comes q output r left x z e (i + total (addedHere w) i) (a .0)
+    ∙ a .1
+    ∙ work-at (q .rtl) (q .line) i b
 
 pub tiles-stand : TilesStand
 unfolding placedRun

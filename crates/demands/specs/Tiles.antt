@@ -1,5 +1,5 @@
 -- What stretching promises of the copies of a run and of where its tiles stand, said again in words of its own: not by the recursion of the work, but by places and by what the numbers are for. Of numbers: `Covers` how many copies a run has; `tight` whether its tiles exceed the room; `Laps` by how much copies overlap; `opening` where the offsets start. Of the line, in the order of the work: `total` a sum over places; `tileFirst`, `begins` where a run begins;
--- `Copied`, `Lapped` those numbers of a run; `Numbered` of each; `OneNumber` that there is one of each, and no other; `addedAt` how many records a run adds; `CountByPlaces` how many records there are. Of the output: `comes` the record that comes k-th; `extra`, `spot` how many copies a tile has, and where it comes; `leftOf`, `rightOf`, `beside` where a record stands beside its neighbour; `RunStands`, `TilesStand` where the tiles of each run stand.
+-- `Copied`, `Lapped` those numbers of a run; `Numbered` of each; `OneNumber` that there is one of each, and no other; `addedAt` how many records a run adds; `CountByPlaces` how many records there are. Of the output: `comes` the record that comes k-th; `OthersCome` where records come that are no tiles; `extra`, `spot` how many copies a tile has, and where it comes; `leftOf`, `rightOf`, `beside` where a record stands beside its neighbour; `RunStands`, `TilesStand` where the tiles of each run stand.
 -- Assumes nothing.
 use mathlib.Core.Path.{_≡_}
 use mathlib.Core.Bool.{Bool, true, false, cond, not, _&&_}
@@ -84,6 +84,14 @@ CountByPlaces =
 -- of the n records that columns begin with, the one that comes k-th in the order of the work: right to left from the end
 abbrev pub comes : Bool → ℕ → Columns → ℕ → Record
 comes rtl n c k = recordAt c (cond rtl (n - k - 1) k)
+
+-- A record that is no tile comes in the output as many places later as the runs before it have added, with all its numbers.
+abbrev pub OthersCome : Type 0
+OthersCome =
+    (q : Request) (output : Columns) (r : Answer) (left : Columns) → Stretching q output r left → numberSaid r ≡ 0 → q .recorded ≡ true
+    → let w = work (q .rtl) (q .line) in
+    (copies : ℕ → ℕ) → Numbered w copies → (i : ℕ) → i < length (q .line .actions) → tileFirst (drop i w) ≡ false
+    → comes (q .rtl) (lengthSaid r) left (i + total (addedAt w copies) i) ≡ comes (q .rtl) (length (q .line .actions)) (q .line) i
 
 -- the k-th tile of a run has c copies, if it is a repeating one, else none
 abbrev pub extra : (ℕ → Record) → ℕ → ℕ → ℕ

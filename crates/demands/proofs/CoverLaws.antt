@@ -1,7 +1,7 @@
 -- How the repeating tiles of a run cover its room: the numbers of crate fitting are those that the promises name (`Reckoned`, `reckoned`), and no others are (`covers-one`); of a run (`run-reckoned`).
 -- Assumes nothing.
 use mathlib.Core.Path.{_≡_, refl, sym, ap, _∙_, subst}
-use mathlib.Core.Bool.{Bool, true, false, cond, _&&_, true≢false, and-false}
+use mathlib.Core.Bool.{Bool, true, false, true≢false, and-false}
 use mathlib.Core.List.{List, [], _∷_, map}
 use mathlib.Core.Logic.{_⊎_, inl, inr}
 use Prim.Native.Nat.{ℕ, zero, suc, _+_, _-_, _*_, _/_, _%_, _<_, _≤_}
@@ -53,10 +53,11 @@ module _ (room w : ℤ) (t n : ℕ) where
   loose : fitOf room w t ≡ looseFit room n → tight room w n ≡ false → Covers room w t n → Reckoned room w t n 0
   unfolding fitOf looseFit
   loose e f v =
+      let half : quotZ room (pos 2) ≡ opening room w n = rw f in
       record {
         copies-are = ap (λ (x : Fit). x .copies) e;
         overlap-is = ap (λ (x : Fit). x .overlap) e;
-        start-is = ap (λ (x : Fit). x .start) e ∙ sym (ap (λ (b : Bool). cond b (pos 0) (quotZ room (pos 2))) f);
+        start-is = ap (λ (x : Fit). x .start) e ∙ half;
         covers = v;
         laps = record { covered = λ g. absurd (true≢false (sym g ∙ f)); largest = λ g. absurd (true≢false (sym g ∙ f)); none = λ g. refl };
         only = λ p l. l .none f;
@@ -81,8 +82,11 @@ not-above (pos zero) z p = absurd (p .lt)
 not-above (pos (suc n)) z p = omega (arith, z)
 not-above (negsuc n) z p = absurd (p .lt)
 
-covers-flat : (room w : ℤ) (t c : ℕ) → count w ≡ 0 → c ≡ cond (ltZ w room && ltb 0 t) 1 0 → Covers room w t c
-covers-flat room w t c z e = record { enough = λ p. absurd (not-above w z p); fewer = λ p. absurd (not-above w z p); once = λ n. e }
+covers-none : (room w : ℤ) → count w ≡ 0 → Covers room w 0 0
+covers-none room w z = record { enough = λ p. absurd (not-above w z p); fewer = λ p. absurd (not-above w z p); once = λ n. rw (and-false (ltZ w room)) }
+
+covers-once : (room w : ℤ) (t : ℕ) → count w ≡ 0 → leZ room w ≡ false → 0 < t → Covers room w t 1
+covers-once room w t z e h = record { enough = λ p. absurd (not-above w z p); fewer = λ p. absurd (not-above w z p); once = λ n. rw (nle-lt room w e, lt-ltb 0 t h) }
 
 -- ---- w is above 0, and the room exceeds it
 module _ (r v t : ℕ) (p : 0 < v) (q : v < r) where
@@ -137,10 +141,11 @@ module _ (r v t : ℕ) (p : 0 < v) (q : v < r) where
     unfolding fitOf fit.tight
     squeeze =
         let e = fit-left r v p q t s m in
+        let from : pos 0 ≡ opening (pos r) (pos v) (r / v) = rw exceeds in
         record {
           copies-are = ap (λ (x : Fit). x .copies) e;
           overlap-is = ap (λ (x : Fit). x .overlap) e;
-          start-is = ap (λ (x : Fit). x .start) e ∙ sym (ap (λ (b : Bool). cond b (pos 0) (quotZ (pos r) (pos 2))) exceeds);
+          start-is = ap (λ (x : Fit). x .start) e ∙ from;
           covers = covers-above (r / v) (omega (arith, over r v p q)) (λ d k. omega (arith, div-add-mod' r v, m, mul-le-mul-right {m = d + 1} {n = r / v} v (omega (arith, k))));
           laps = record {
             covered = λ x. record { le = le→leb (r + o * D) ((r / v + 1) * v) lap-le };
@@ -155,14 +160,10 @@ pub reckoned : (room w : ℤ) (t : ℕ) → (pos 0 <ℤ w → 0 < t) → (c : �
 reckoned room w t some = go (leZ room w) refl
   where
     flat : (t : ℕ) → leZ room w ≡ false → count w ≡ 0 → (c : ℕ) × (o : ℕ) × Reckoned room w t c o
-    flat zero e z = (0, 0, loose room w 0 0 (fit-none room w z e) refl (covers-flat room w 0 0 z (sym (ap (λ (b : Bool). cond b 1 0) (and-false (ltZ w room))))))
+    flat zero e z = (0, 0, loose room w 0 0 (fit-none room w z e) refl (covers-none room w z))
     flat (suc k) e z =
-        let h : 0 < suc k = omega arith in (
-          1,
-          0,
-          loose room w (suc k) 1 (fit-one room w z e (suc k) h) (not-twice room w z e)
-              (covers-flat room w (suc k) 1 z (rw (nle-lt room w e, lt-ltb 0 (suc k) h))),
-        )
+        let h : 0 < suc k = omega arith in
+        (1, 0, loose room w (suc k) 1 (fit-one room w z e (suc k) h) (not-twice room w z e) (covers-once room w (suc k) z e h))
 
     above : (r v : ℕ) → Above room w r v → (c : ℕ) × (o : ℕ) × Reckoned room w t c o
     above r v a = rw (a .room-is, a .w-is) (by (r % v) refl)

@@ -1,5 +1,6 @@
 -- Each promise, proved.
 -- Assumes nothing.
+pub mod CoverLaws
 pub mod ExamplesHold
 pub mod JoiningHolds
 pub mod MarksHold
@@ -11,5 +12,7 @@ pub mod RangeLaws
 pub mod RecordingHolds
 pub mod ReplacingHolds
 pub mod StretchingHolds
+pub mod TileLaws
+pub mod TilesHold
 pub mod WholeLaws
 pub mod WorkedLaws

@@ -1,4 +1,4 @@
--- The promises of stretching hold.
+-- The promises of stretching hold. Of an accepted request: the length (`count-left`), the records that the output begins with (`records-left`), a line of which something was recorded (`line-recorded`).
 -- Assumes nothing.
 use mathlib.Core.Path.{_≡_, refl, sym, ap, _∙_}
 use mathlib.Core.Bool.{Bool, true, false, cond}
@@ -66,7 +66,7 @@ module _ (q : Request) (output : Columns) (r : Answer) (left : Columns) (x : Str
     output-left : left ≡ laidOver (newLine q) output
     output-left = accepted-left q output r left x z .0
 
-    count-left : lengthSaid r ≡ length (newLine q)
+    pub count-left : lengthSaid r ≡ length (newLine q)
     count-left = accepted-left q output r left x z .1
 
     past-accepted : AllPast (lengthSaid r) left
@@ -83,7 +83,7 @@ module _ (q : Request) (output : Columns) (r : Answer) (left : Columns) (x : Str
         )
 
     -- the first records of the output are the new line
-    records-left : records (lengthSaid r) left ≡ newLine q
+    pub records-left : records (lengthSaid r) left ≡ newLine q
     records-left = rw (output-left, count-left) (records-glued (newLine q) _)
 
 pub past-the-answer : PastTheAnswer
@@ -98,7 +98,7 @@ module _ (q : Request) where
   line-unrecorded : q .recorded ≡ false → newLine q ≡ lineOf (q .line)
   line-unrecorded e = rw e
 
-  line-recorded : q .recorded ≡ true → newLine q ≡ stretched (q .rtl) (lineOf (q .line))
+  pub line-recorded : q .recorded ≡ true → newLine q ≡ stretched (q .rtl) (lineOf (q .line))
   line-recorded e = rw e
 
   -- whether it is recorded or not

@@ -8,3 +8,4 @@ pub mod Program
 pub mod Recording
 pub mod Replacing
 pub mod Stretching
+pub mod Tiles

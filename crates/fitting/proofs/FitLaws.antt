@@ -22,13 +22,13 @@ tight n k = record { copies = n; overlap = pos k; start = pos 0 }
 
 -- ---- numbers with signs
 -- the order's two tests
-le-not-lt : (a b : ℤ) → leZ a b ≡ true → ltZ b a ≡ false
+pub le-not-lt : (a b : ℤ) → leZ a b ≡ true → ltZ b a ≡ false
 le-not-lt (pos a) (pos b) e = le-ltb b a (leb-true a b e)
 le-not-lt (pos a) (negsuc b) e = sym e
 le-not-lt (negsuc a) (pos b) e = refl
 le-not-lt (negsuc a) (negsuc b) e = le-ltb a b (leb-true b a e)
 
-nle-lt : (a b : ℤ) → leZ a b ≡ false → ltZ b a ≡ true
+pub nle-lt : (a b : ℤ) → leZ a b ≡ false → ltZ b a ≡ true
 nle-lt (pos a) (pos b) e = lt-ltb b a (leb-false a b e)
 nle-lt (pos a) (negsuc b) e = refl
 nle-lt (negsuc a) (pos b) e = sym e
@@ -89,7 +89,7 @@ whole-zero room (pos zero) z = simp and-false
 whole-zero room (pos (suc n)) z = absurd (omega arith)
 whole-zero room (negsuc n) z = simp and-false
 
-not-twice : (room w : ℤ) → count w ≡ 0 → leZ room w ≡ false → ltZ room (pos 2 *ℤ w) ≡ false
+pub not-twice : (room w : ℤ) → count w ≡ 0 → leZ room w ≡ false → ltZ room (pos 2 *ℤ w) ≡ false
 unfolding count
 not-twice (pos r) (pos zero) z e = le-ltb r 0 (omega arith)
 not-twice (negsuc r) (pos zero) z e = e
@@ -143,7 +143,7 @@ module _ (r v : ℕ) (p : 0 < v) (q : v < r) where
       let d = div-add-mod r v in
       simp (next-is, lt-ltb (v * (r / v)) r (omega arith), lt-ltb 0 t h)
 
-  over : r < (r / v + 1) * v
+  pub over : r < (r / v + 1) * v
   over = let h = lt-div-mul-add {a = r} p in rw (add-mul (r / v) 1 v) (omega arith)
 
   left-is : (r / v + 1) * v - r ≡ v - r % v

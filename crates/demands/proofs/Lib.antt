@@ -1,6 +1,5 @@
 -- Each promise, proved.
 -- Assumes nothing.
-pub mod CoverLaws
 pub mod ExamplesHold
 pub mod JoiningHolds
 pub mod MarksHold
@@ -12,7 +11,5 @@ pub mod RangeLaws
 pub mod RecordingHolds
 pub mod ReplacingHolds
 pub mod StretchingHolds
-pub mod TileLaws
-pub mod TilesHold
 pub mod WholeLaws
 pub mod WorkedLaws

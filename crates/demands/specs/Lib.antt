@@ -8,4 +8,3 @@ pub mod Program
 pub mod Recording
 pub mod Replacing
 pub mod Stretching
-pub mod Tiles

@@ -17,11 +17,11 @@ use Rattle.runs.proofs.RecordLaws.{blank, getD-listed, getD-in-order, spot-belo
 use Rattle.runs.proofs.StretchedLaws.{length-placed}
 use Rattle.stretching.specs.declared.Answer.{Answer}
 use Rattle.stretching.specs.Stretching.{Request, numberSaid, lengthSaid, Stretching}
 use Rattle.demands.specs.Stretching.{records}
-use Rattle.demands.specs.Tiles.{total, tileFirst, begins, Copied, Lapped, Numbered, OneNumber, addedAt, CountByPlaces, comes, OthersCome, TilesStand}
+use Rattle.tiling.specs.Tiles.{total, tileFirst, begins, Copied, Lapped, Numbered, OneNumber, addedAt, CountByPlaces, comes, OthersCome, TilesStand}
 use Rattle.demands.proofs.StretchingHolds.{count-left, records-left, line-recorded, count-added}
-use Rattle.demands.proofs.CoverLaws.{Reckoned, covers-one, run-reckoned}
-use Rattle.demands.proofs.TileLaws.{total-same, addedHere, added-places, plain-at, run-at, run-stands}
+use Rattle.tiling.proofs.CoverLaws.{Reckoned, covers-one, run-reckoned}
+use Rattle.tiling.proofs.TileLaws.{total-same, addedHere, added-places, plain-at, run-at, run-stands}
 
 -- ---- the numbers of a run
 abbrev Run : List Record → ℕ → ℕ → Type 0

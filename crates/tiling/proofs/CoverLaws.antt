@@ -20,7 +20,7 @@ use Rattle.fitting.proofs.FitLaws as fit
 use Rattle.fitting.proofs.FitLaws.{Above, both-pos, le-not-lt, nle-lt, not-twice, one-at-least, over, fit-le, fit-none, fit-one, fit-even, fit-left}
 use Rattle.runs.specs.Records.{Record}
 use Rattle.runs.specs.Runs.{acts, run, sum, room, repeatingWidth, tiles}
-use Rattle.demands.specs.Tiles.{Covers, tight, Laps, opening}
+use Rattle.tiling.specs.Tiles.{Covers, tight, Laps, opening}
 
 -- what is reckoned is c copies that overlap by o, as the promises say them, and no other overlap is
 pub record Reckoned (room w : ℤ) (t c o : ℕ) : Type 0 where

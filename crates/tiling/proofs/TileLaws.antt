@@ -18,7 +18,7 @@ use Rattle.runs.specs.Runs.{isTile, run, tiles, copiesOf}
 use Rattle.runs.specs.Stretched.{Piece, piece, pieces, copiesFor, runPieces, moved, next, offsetAt, placed, placedRun, worked, recordsAdded}
 use Rattle.runs.proofs.RecordLaws.{blank}
 use Rattle.runs.proofs.StretchedLaws.{worked-plain, length-run, length-pieces}
-use Rattle.demands.specs.Tiles.{total, tileFirst, begins, extra, spot, beside, RunStands}
+use Rattle.tiling.specs.Tiles.{total, tileFirst, begins, extra, spot, beside, RunStands}
 
 -- ---- sums over places
 pub total-same : (f g : ℕ → ℕ) (n : ℕ) → ((k : ℕ) → k < n → f k ≡ g k) → total f n ≡ total g n

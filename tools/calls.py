@@ -11,6 +11,7 @@ import subprocess
 import sys
 
 ROOT = pathlib.Path(__file__).resolve().parent.parent
+LAST_PLACE = 2**32 - 1  # that a case can have
 
 
 # ---- cases
@@ -57,6 +58,16 @@ def one_long(call, name):
     return call
 
 
+def uneven_now_and_then(draw, call, size, names):
+    """One call in twelve gets a column that is one short or one long, if it has any element."""
+    if size and not draw.randrange(12):
+        draw.choice((one_short, one_long))(call, draw.choice(names))
+
+
+def copied(call):
+    return {name: list(column) for name, column in call.items()}
+
+
 def places(count):
     """Where a number is tried in a column: at its ends, in its middle, around the steps of the compiled loops."""
     return sorted({at for at in (0, count // 2, count - 1, 7, 8, 9, 15, 16, 17, 31, 32, 33, 63, 64) if at < count})
@@ -79,6 +90,14 @@ def compare_model(tool, stream, inputs, answer):
         cases += 1
     print(f"{tool}: the model: {cases} cases, {differ} differ")
     sys.exit(1 if differ or not cases else 0)
+
+
+def as_expected(tool, program, cases, seed):
+    """Runs the program on the cases, and says whether it finds all of them as they are to be."""
+    ran = subprocess.run([ROOT / "run", program], input=b"".join(cases), stdout=subprocess.PIPE)
+    printed = ran.stdout.decode()
+    print(f"{tool}: {printed.strip()} (seed {seed})")
+    return ran.returncode == 0 and printed == f"{program}: {len(cases)} cases, 0 differ\n"
 
 
 def wrong_answers(call, inputs, outputs, answer):
@@ -130,9 +149,7 @@ def main(tool, program, about, inputs, outputs, answer, worked, limits, spoilt):
     if given.model:
         compare_model(tool, sys.stdin.buffer, inputs, answer)
     cases = [case(call, inputs, outputs, answer(call)) for call in itertools.chain(examples, limits(draw))]
-    ran = subprocess.run([ROOT / "run", program], input=b"".join(cases), stdout=subprocess.PIPE)
-    printed = ran.stdout.decode()
-    print(f"{tool}: {printed.strip()} (seed {given.seed})")
+    same = as_expected(tool, program, cases, given.seed)
     tried, untold = told(program, examples, inputs, outputs, answer, spoilt)
     print(f"{tool}: {tried} cases with a wrong answer or of a wrong form, {untold} not told")
-    sys.exit(0 if ran.returncode == 0 and printed == f"{program}: {len(cases)} cases, 0 differ\n" and not untold else 1)
+    sys.exit(0 if same and not untold else 1)

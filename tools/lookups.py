@@ -7,6 +7,7 @@ from rules import *
 MOST_AREA = 132000  # bytes of an area that the programs can read
 EDGES = (0, 1, 2, 255, 256, 257, 0x7FFF, 0x8000, LAST_WORD - 1, LAST_WORD)  # glyphs at which a byte or a word turns
 FLAGS = (0, 1, 8, 255, 256, LAST_WORD)
+WRITTEN = {"number": 1, "length": 4, "area": 1}  # what comes out of a writer's case
 
 
 # ---- document 01: "Numbers of refusal", and "Lookup bytes"

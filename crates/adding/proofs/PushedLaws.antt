@@ -13,7 +13,8 @@ use Rattle.layouts.specs.declared.Kind.{Kind}
 use Rattle.layouts.specs.Tables.{Rule}
 use Rattle.layouts.specs.Lookups.{lookupOf, width, known, flat, ligatures, listed}
 use Rattle.packing.specs.Packed.{pack, unpacked}
-use Rattle.packing.proofs.PackLaws.{length-flat, wide-unpacked}
+use Rattle.layouts.proofs.FlatLaws.{length-flat}
+use Rattle.packing.proofs.PackLaws.{wide-unpacked}
 use Rattle.ordering.specs.Order.{sorted}
 use Rattle.fonts.specs.Font.{Font, fontOf}
 use Rattle.synthesis.specs.Rules.{rows, kindOf, inOrder}

@@ -24,7 +24,7 @@ use Rattle.layouts.proofs.WrittenLaws.{Allowed, allowed, two-or-three}
 use Rattle.scanning.specs.Exact.{kindRead, asRead, Readable}
 use Rattle.ordering.proofs.KeyLaws.{Each, each-append, each-parts}
 use Rattle.ordering.proofs.OrderLaws.{sorted-stable, length-sorted, each-sorted}
-use Rattle.packing.proofs.PackLaws.{length-flat, rules-flat}
+use Rattle.layouts.proofs.FlatLaws.{length-flat, rules-flat}
 use Rattle.synthesis.specs.Rules.{inOrder}
 use Rattle.drafts.specs.Entries.{Entry, bytesOf, sizeOf, allBytes, seven, padded, ruleLimit, most, longestPlan}
 use Rattle.drafts.proofs.EntryLaws.{all-append}

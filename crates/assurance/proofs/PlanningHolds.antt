@@ -8,6 +8,8 @@ use native.Mathlib.Omega.{arith}
 use borrow.Author.Tests.{ne-eqb, eq-eqb, le-ltb}
 use lib.ListN.{length, take, drop}
 use lib.Seq.{take-at}
+use Rattle.laws.specs.Lists.{Past}
+use Rattle.laws.proofs.PartLaws.{past-same, past-front}
 use Rattle.laws.specs.Rows.{first}
 use Rattle.laws.proofs.TestLaws.{both}
 use Rattle.refusals.specs.declared.Verdict.{Verdict}
@@ -20,8 +22,6 @@ use Rattle.fallback.specs.declared.FallbackPlan.{FallbackPlan}
 use Rattle.fallback.specs.Plan.{Inputs, unicode, plan}
 use Rattle.fallback.specs.Planned.{Outcome, outcome, nothing, made, lentRows, planRows, planRefusal, planAfter, Planning}
 use Rattle.fallback.specs.Switch.{fallbackOn}
-use Rattle.demands.specs.Stretching.{Past}
-use Rattle.fidelity.proofs.PastLaws.{past-same, past-front}
 use Rattle.assurance.specs.Planning.{OneAnswer, RefusedStays, SmallestNumber, Says, AcceptedPlans, AtMostSeven, total, PastTheAnswer, UnicodeFirst, WindowsSecond, EmptyOtherwise, SwitchedOn}
 use Rattle.assurance.proofs.OriginLaws.{plan-few}
 use Rattle.assurance.proofs.PlanLaws.{Passed, passed, total-lengths, length-padded}

@@ -6,6 +6,7 @@ use mathlib.Core.Logic.{_↔_}
 use mathlib.Core.List.{List, [], _∷_}
 use Prim.Native.Nat.{ℕ, _+_, _<_, _≤_}
 use lib.ListN.{length, take}
+use Rattle.laws.specs.Lists.{Past}
 use Rattle.laws.specs.Rows.{Has, first}
 use Rattle.refusals.specs.Numbers.{said}
 use Rattle.drafts.specs.Entries.{Entry, allBytes, seven, masksOf, lengthsOf}
@@ -15,7 +16,6 @@ use Rattle.fallback.specs.declared.Needs.{Needs}
 use Rattle.fallback.specs.Plan.{Inputs, unicode, plan}
 use Rattle.fallback.specs.Planned.{lentRows, planRows, Planning}
 use Rattle.fallback.specs.Switch.{fallbackOn}
-use Rattle.demands.specs.Stretching.{Past}
 
 -- Any two answers that the statement allows are equal, and so are the areas that they leave.
 abbrev pub OneAnswer : Type 0

@@ -11,7 +11,8 @@ use lib.ListN.{length, getD}
 use Rattle.refusals.proofs.LeftLaws.{left-number, left-stays, left-smallest, left-accepted}
 use Rattle.letters.specs.Actions.{fixed, repeating}
 use Rattle.recording.specs.declared.Answer.{Answer}
-use Rattle.recording.specs.Recorded.{Request, Outcome, outcome, yes, some, tile, newAction, newActions, recorded, recordRows, recordRefusal, numberSaid, recordedSaid, Recording}
+use Rattle.refusals.specs.Columns.{yes}
+use Rattle.recording.specs.Recorded.{Request, Outcome, outcome, some, tile, newAction, newActions, recorded, recordRows, recordRefusal, numberSaid, recordedSaid, Recording}
 use Rattle.recording.proofs.RecordedLaws as recorded-laws
 use Rattle.recording.proofs.RecordedLaws.{Allowed, allowed, recorded-masked, recorded-unmasked}
 use Rattle.recording.proofs.ActionLaws.{none-multiplied}

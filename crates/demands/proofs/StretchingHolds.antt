@@ -7,8 +7,8 @@ use mathlib.Core.Logic.{inl, inr}
 use Prim.Native.Nat.{ℕ, zero, suc, _+_, _<_, _≤_}
 use native.Mathlib.Omega.{arith}
 use lib.ListN.{length, drop, length-map}
-use lib.Seq.{drop-at, length-take-le, length-front}
-use Rattle.laws.specs.Lists.{those}
+use Rattle.laws.specs.Lists.{those, Past}
+use Rattle.laws.proofs.PartLaws.{past-same, past-front}
 use Rattle.refusals.proofs.LeftLaws.{left-smallest}
 use Rattle.runs.specs.Records.{Record, Columns, recordAt, lineOf, kept}
 use Rattle.runs.specs.Runs.{isTile, isPlain}
@@ -19,7 +19,7 @@ use Rattle.stretching.specs.declared.Answer.{Answer}
 use Rattle.stretching.specs.Stretching.{Request, outcome, stretchedLimit, newLine, laidOver, stretchRows, stretchRefusal, numberSaid, lengthSaid, Stretching}
 use Rattle.stretching.proofs.StretchingLaws as laws
 use Rattle.stretching.proofs.StretchingLaws.{Allowed, allowed, number-given, refused-left, accepted-left}
-use Rattle.demands.specs.Stretching.{OneAnswer, RefusedStays, SmallestNumber, Past, PastTheAnswer, records, GivenAsItIs, CountAdded, OthersStay, CopiesKeep, FromTheLine, RunsHaveNoAdvance, TurnedRound}
+use Rattle.demands.specs.Stretching.{OneAnswer, RefusedStays, SmallestNumber, PastTheAnswer, records, GivenAsItIs, CountAdded, OthersStay, CopiesKeep, FromTheLine, RunsHaveNoAdvance, TurnedRound}
 use Rattle.demands.proofs.WorkedLaws.{Every, every-at, every-more, Among, among-stretched, among-itself, plain-stretched, kept-stretched, Still, still-stretched, none-stretched, turned-stretched, records-glued}
 
 pub one-answer : OneAnswer
@@ -36,12 +36,7 @@ smallest-number q output r left =
 -- ---- the output
 -- a column over whose first places records are laid
 past-laid : {A : Type 0} (f : Record → A) (l : List Record) (old : List A) → length l ≤ length old → Past (length l) old (map f l ++ drop (length l) old)
-past-laid f l old h =
-    let n = length-map l f in
-    record { behind = drop-at (map f l) (drop (length l) old) (length l) n; long = length-front old (map f l) (length l) (n ∙ sym (length-take-le (length l) old h)) }
-
-past-same : {A : Type 0} (n : ℕ) (l : List A) → Past n l l
-past-same n l = record { behind = refl; long = refl }
+past-laid f l old h = past-front (length l) (map f l) old _ (length-map l f) h refl (length l) refl
 
 module _ (q : Request) (output : Columns) (r : Answer) (left : Columns) (x : Stretching q output r left) where
   abbrev AllPast : ℕ → Columns → Type 0

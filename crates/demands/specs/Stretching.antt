@@ -1,4 +1,4 @@
--- What stretching promises. Of every request, by the call's statement (`Stretching` of crate stretching): `OneAnswer`, `RefusedStays`, `SmallestNumber`; `Past`, `PastTheAnswer` that output past the answer is untouched;
+-- What stretching promises. Of every request, by the call's statement (`Stretching` of crate stretching): `OneAnswer`, `RefusedStays`, `SmallestNumber`; `PastTheAnswer` that output past the answer is untouched;
 -- `records` the records that an output begins with; `GivenAsItIs` which lines stay as they are; `CountAdded` how many records there are; `OthersStay` what becomes of a record that is no tile; `times`, `repeated`, `CopiesKeep`, `FromTheLine` what copies keep;
 -- `RunsHaveNoAdvance`. Of the definition (`stretched` of crate runs): `unplaced`, `TurnedRound` that the other direction is the same work.
 -- Assumes nothing.
@@ -7,9 +7,9 @@ use mathlib.Core.Bool.{Bool, true, false, cond, not}
 use mathlib.Core.List.{List, [], _∷_, _++_, map, reverse}
 use mathlib.Core.Logic.{_⊎_}
 use Prim.Native.Nat.{ℕ, _+_, _<_, _≤_}
-use lib.ListN.{length, drop, replicate}
+use lib.ListN.{length, replicate}
 use lib.IntN.{pos}
-use Rattle.laws.specs.Lists.{those}
+use Rattle.laws.specs.Lists.{those, Past}
 use Rattle.laws.specs.Rows.{Has}
 use Rattle.letters.specs.Actions.{repeating}
 use Rattle.runs.specs.declared.Tile.{Tile}
@@ -36,11 +36,6 @@ SmallestNumber =
     × ((n : ℕ) → Has (stretchRows stretchedLimit q output) n true → (0 < numberSaid r) × (numberSaid r ≤ n))
 
 -- ---- the output
--- a column l has become m: from the n-th place on it is as it was, and it has neither grown nor shrunk
-pub record Past {A : Type 0} (n : ℕ) (l m : List A) : Type 0 where
-  pub behind : drop n m ≡ drop n l
-  pub long : length m ≡ length l
-
 -- Output past the answered length is untouched, in each column: all of it, where a request is refused.
 abbrev pub PastTheAnswer : Type 0
 PastTheAnswer =

@@ -1,6 +1,5 @@
 -- Each promise, proved.
 -- Assumes nothing.
-pub mod PastLaws
 pub mod ChangeLaws
 pub mod StandLaws
 pub mod FollowLaws

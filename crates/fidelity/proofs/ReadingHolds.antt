@@ -10,6 +10,8 @@ use borrow.Author.Tests.{le-ltb, ltb-false}
 use lib.Dec.{ltb}
 use lib.ListN.{length, take, drop}
 use lib.Seq.{take-at}
+use Rattle.laws.specs.Lists.{Past}
+use Rattle.laws.proofs.PartLaws.{past-same, past-front}
 use Rattle.laws.specs.Rows.{first}
 use Rattle.laws.proofs.RowLaws.{first-none}
 use Rattle.laws.proofs.TestLaws.{neither}
@@ -32,10 +34,8 @@ use Rattle.scanning.specs.Exact.{kindRead, asRead, Readable}
 use Rattle.scanning.proofs.ExactLaws.{bytes-accepted, bytes-written}
 use Rattle.reading.specs.declared.Answer.{Answer}
 use Rattle.reading.specs.Read.{Columns, Outcome, nothing, found, lacking, made, rowsOf, readRefusal, numberSaid, outcomeSaid, readAfter, Reading}
-use Rattle.demands.specs.Stretching.{Past}
 use Rattle.fidelity.specs.Reading as promised
 use Rattle.fidelity.specs.Reading.{OneAnswer, RefusedStays, SmallestNumber, countSaid, glyphsSaid, PastTheAnswer, WriterGives, Accepts, lookupSaid, ReadsBack, WritesBack, NeverFall, EmptyAlike, EmptyReadsTwo}
-use Rattle.fidelity.proofs.PastLaws.{past-same, past-front}
 use Rattle.fidelity.proofs.WritingHolds as writing
 use Rattle.fidelity.proofs.SaidLaws.{list-said, same-answer, Said, said-found}
 

@@ -9,6 +9,8 @@ use native.Mathlib.Omega.{arith}
 use borrow.Author.Tests.{lt-leb, leb-false, ltb-true, ltb-false}
 use lib.Dec.{ltb, leb}
 use lib.ListN.{length, drop, length-map}
+use Rattle.laws.specs.Lists.{Past}
+use Rattle.laws.proofs.PartLaws.{past-same, past-front}
 use Rattle.refusals.proofs.LeftLaws.{left-number, left-stays, left-accepted, left-smallest}
 use Rattle.words.specs.Words.{bytes, wordsAt}
 use Rattle.words.proofs.WordLaws.{length-bytes}
@@ -24,10 +26,8 @@ use Rattle.layouts.proofs.SizeLaws.{length-rules, size-single, size-ligature}
 use Rattle.layouts.proofs.LimitLaws.{Regular, regular-rules, single-fits}
 use Rattle.layouts.proofs.WrittenLaws.{one-written, Allowed, allowed, offset-given, room-given, none-given, two-or-three}
 use Rattle.reading.specs.Read.{typeOf}
-use Rattle.demands.specs.Stretching.{Past}
 use Rattle.fidelity.specs.Followed.{coverageAt, followed}
 use Rattle.fidelity.specs.Writing.{OneAnswer, RefusedStays, SmallestNumber, PastTheAnswer, changes, sizeOf, Size, Lent, Even, OffsetFrom, mostSingle, SingleLimit, mostInSet, OneSetLimit, mostAlone, LoneRuleLimit, formatOf, Headed, coveredIn, Covered, EveryOffset}
-use Rattle.fidelity.proofs.PastLaws.{past-same, past-front}
 use Rattle.fidelity.proofs.ChangeLaws.{leaders-changes, length-changes}
 use Rattle.fidelity.proofs.StandLaws.{Stands, stands-bytes, Laid, coverage-at}
 use Rattle.fidelity.proofs.FollowLaws.{single-laid, single-followed, starts, blocks, ligature-laid, ligature-followed}

@@ -7,6 +7,7 @@ use mathlib.Core.Logic.{_↔_}
 use mathlib.Core.List.{List, []}
 use Prim.Native.Nat.{ℕ, _*_, _<_, _≤_}
 use lib.ListN.{length, getD, take}
+use Rattle.laws.specs.Lists.{Past}
 use Rattle.laws.specs.Rows.{Has}
 use Rattle.refusals.specs.Columns.{rising}
 use Rattle.layouts.specs.declared.Kind.the-variants.{Single, Ligature}
@@ -19,7 +20,6 @@ use Rattle.scanning.specs.Exact.{asRead}
 use Rattle.reading.specs.declared.Answer.{Answer}
 use Rattle.reading.specs.declared.Answer.the-variants.{Read, Refused}
 use Rattle.reading.specs.Read.{Columns, rowsOf, nothing, numberSaid, outcomeSaid, Reading}
-use Rattle.demands.specs.Stretching.{Past}
 
 -- Any two answers that the statement allows are equal, and so are the columns that they leave.
 abbrev pub OneAnswer : Type 0

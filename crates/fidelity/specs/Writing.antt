@@ -8,6 +8,7 @@ use mathlib.Core.List.{List, [], _∷_}
 use Prim.Native.Nat.{ℕ, _+_, _*_, _<_, _≤_}
 use lib.Dec.{eqb}
 use lib.ListN.{length, getD}
+use Rattle.laws.specs.Lists.{Past}
 use Rattle.laws.specs.Rows.{Has}
 use Rattle.words.specs.Words.{wordsAt}
 use Rattle.layouts.specs.declared.Kind.{Kind}
@@ -16,7 +17,6 @@ use Rattle.layouts.specs.declared.Written.{Written}
 use Rattle.layouts.specs.Lookups.{Lookup, lookupOf, width, known, rules, firsts}
 use Rattle.layouts.specs.Written.{rowsOf, numberSaid, lengthSaid, Writing}
 use Rattle.reading.specs.Read.{typeOf}
-use Rattle.demands.specs.Stretching.{Past}
 use Rattle.fidelity.specs.Followed.{coverageAt, followed}
 
 -- Any two answers that the statement allows are equal, and so are the areas that they leave.

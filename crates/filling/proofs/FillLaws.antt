@@ -1,4 +1,4 @@
--- Rules put into two columns: the components of one rule (`pair-filled`, `triple-filled`); the loop over the rules of a set (`Going`, `going-begins`, `going-fits`, `going-next`, `going-ends`).
+-- Rules put into two columns: the components of one rule (`lead-filled`, `word-filled`, `rule-filled`); the loop over the rules of a set (`Going`, `going-begins`, `going-fits`, `going-next`, `going-ends`).
 -- Assumes nothing.
 use mathlib.Core.Path.{_≡_, refl, sym, ap, _∙_}
 use mathlib.Core.List.{List, [], _∷_, _++_}
@@ -8,32 +8,41 @@ use lib.ListN.{length, set, length-set, length-map}
 use Rattle.laws.specs.Lists.{pasted}
 use Rattle.laws.proofs.PasteLaws.{length-pasted, paste-none, paste-one, paste-behind}
 use Rattle.words.specs.Words.{wordAt, wordsAt}
-use Rattle.scanning.specs.Grammar.{flat, ligaturesOf}
+use Rattle.words.proofs.WordLaws.{length-words, words-append}
+use Rattle.layouts.specs.Lookups.{flat, ligatures as ligaturesOf}
 use Rattle.layouts.specs.Tables.{Rule}
 use Rattle.grouping.specs.Grouped.{ruleAt, rulesAt}
 use Rattle.grouping.proofs.RuleLaws.{more}
 use Rattle.filling.specs.Filled.{Filled}
-use Rattle.filling.proofs.RuleLaws.{length-rule, length-rules, length-flat}
+use Rattle.filling.proofs.RuleLaws.{length-rule, length-rules, length-parts}
 
 -- an element stored behind a part that was written over
 store-behind : (P l : List ℕ) (x j v : ℕ) → j ≡ x + length P → j < length l → set (pasted P x l) j v ≡ pasted (P ++ (v ∷ [])) x l
 store-behind P l x j v e h =
     paste-one v j (pasted P x l) (omega (arith, length-pasted P x l (omega arith))) ∙ paste-behind P (v ∷ []) l x j e (omega arith)
 
--- ---- the components of one rule
-module _ (n lead : ℕ) (b : List ℕ) (at x : ℕ) (l : List ℕ) (w : ℕ) (first : w ≡ wordAt b (at + 4)) where
-  pairs : x + 2 ≤ length l → set (set l x lead) (x + 1) w ≡ pasted (lead ∷ w ∷ []) x l
-  pairs h = rw (paste-one lead x l (omega arith)) (store-behind (lead ∷ []) l x (x + 1) w refl (omega arith))
+-- ---- the components of one rule: its first glyph, then the words behind it, one by one
+module _ (lead : ℕ) (b : List ℕ) (at x : ℕ) (l : List ℕ) where
+  -- the column with k of the words
+  abbrev pub filled : ℕ → List ℕ
+  filled k = pasted (lead ∷ wordsAt b (at + 4) k) x l
 
-  pub pair-filled : n ≡ 2 → x + n ≤ length l → set (set l x lead) (x + 1) w ≡ pasted (ruleAt n lead b at .components) x l
-  unfolding ruleAt wordsAt
-  pair-filled two h = rw (two, ← first) (pairs (omega (arith, two)))
+  pub lead-filled : x < length l → set l x lead ≡ filled 0
+  unfolding wordsAt
+  lead-filled h = paste-one lead x l h
 
-  pub triple-filled : n ≡ 3 → x + n ≤ length l → (v : ℕ) → v ≡ wordAt b (at + 6) → set (set (set l x lead) (x + 1) w) (x + 2) v ≡ pasted (ruleAt n lead b at .components) x l
-  unfolding ruleAt wordsAt
-  triple-filled three h v second =
-      let next : at + 4 + 2 ≡ at + 6 = omega arith in
-      rw (three, next, ← first, ← second, pairs (omega (arith, three))) (store-behind (lead ∷ w ∷ []) l x (x + 2) v refl (omega (arith, three)))
+  pub word-filled :
+      (k : ℕ) (now : List ℕ) → now ≡ filled k → (i p v : ℕ) → i ≡ x + (k + 1) → p ≡ at + 4 + 2 * k → v ≡ wordAt b p → i < length l → set now i v ≡ filled (k + 1)
+  unfolding wordsAt
+  word-filled k now f i p v e g w h =
+      rw (f, w, g)
+      (store-behind (lead ∷ wordsAt b (at + 4) k) l x i _ (omega (arith, length-words b (at + 4) k)) h
+      ∙ ap (λ (ws : List ℕ). pasted (lead ∷ ws) x l) (sym (words-append b (at + 4) k 1)))
+
+  -- n - 1 of them are all
+  pub rule-filled : (n k : ℕ) → n ≡ k + 1 → filled k ≡ pasted (ruleAt n lead b at .components) x l
+  unfolding ruleAt
+  rule-filled n k e = let less : k ≡ n - 1 = omega arith in ap filled less
 
 -- ---- the loop over the rules of a set
 -- before a rule at byte p, with it and others to come: these, written over what is there, make what all of them were to make
@@ -52,7 +61,7 @@ module _ (n lead c : ℕ) (b : List ℕ) (at : ℕ) (components : List ℕ) (x :
 
   module _ (left p y j : ℕ) (now here : List ℕ) (g : Going n lead c b at components x ligatures i left p y j now here) where
     pub going-ends : left ≡ 0 → Filled (rulesAt n lead c b at) components x ligatures i now here
-    unfolding rulesAt
+    unfolding rulesAt flat
     going-ends z =
         record {
           parts = sym (paste-none y now) ∙ ap (λ (m : ℕ). pasted (flat (rulesAt n lead m b p)) y now) (sym z) ∙ g .parts;
@@ -76,13 +85,13 @@ module _ (n lead c : ℕ) (b : List ℕ) (at : ℕ) (components : List ℕ) (x :
       pub going-next :
           (d : List ℕ) → d ≡ pasted (ruleAt n lead b p .components) y now → (w : ℕ) → w ≡ wordAt b p
           → Going n lead c b at components x ligatures i (left - 1) (p + (2 + 2 * n)) (y + n) (j + 1) d (set here j w)
-      unfolding ruleAt
+      unfolding ruleAt flat
       going-next d e w f =
           let others : List Rule = rulesAt n lead (left - 1) b (p + (2 + 2 * n)) in
           let P : List ℕ = ruleAt n lead b p .components in
           let size : length P ≡ n = length-rule n lead b p low in
           let steps = more left n h in
-          let rest : length (flat others) ≡ (left - 1) * n = length-flat n lead (left - 1) b (p + (2 + 2 * n)) low in
+          let rest : length (flat others) ≡ (left - 1) * n = length-parts n lead (left - 1) b (p + (2 + 2 * n)) low in
           let tail : length (ligaturesOf others) ≡ left - 1 = length-map others _ ∙ length-rules n lead (left - 1) b (p + (2 + 2 * n)) in
           let fits : y + n + (left - 1) * n ≤ length now = omega (arith, g .parts-to, g .long, room, steps) in
           let free : j + 1 + (left - 1) ≤ length here = omega (arith, g .wholes-to, g .wide, space, h) in

@@ -1,20 +1,18 @@
--- The rules that bytes hold: how many they are, and their components (`length-rules`, `length-flat`); those of two lists (`flat-append`, `ligatures-append`); the sets' rules, by the next set (`sets-next`), how many they are by where they end (`end-is`), and that their end is behind their beginning.
+-- The rules that bytes hold: how many they are, and their components (`length-rule`, `length-rules`, `length-parts`); the sets' rules, by the next set (`sets-next`), how many they are by where they end (`end-is`), and how many their components are (`flat-sets`).
 -- Assumes nothing.
 use mathlib.Core.Path.{_≡_, refl, sym, ap, _∙_}
-use mathlib.Core.List.{List, [], _∷_, _++_, append-assoc}
+use mathlib.Core.List.{List, [], _∷_, _++_}
 use Prim.Native.Nat.{ℕ, zero, suc, _+_, _-_, _*_, _<_}
 use native.Mathlib.Nat.{zero-mul}
 use native.Mathlib.Omega.{arith}
 use lib.ListN.{length, length-append}
 use Rattle.words.specs.Words.{wordAt, wordsAt}
 use Rattle.words.proofs.WordLaws.{length-words}
-use Rattle.layouts.specs.Tables.{Rule}
-use Rattle.scanning.specs.Grammar.{setSize, flat}
+use Rattle.layouts.specs.Lookups.{flat}
+use Rattle.layouts.proofs.SetLaws.{Wide, wide-append}
+use Rattle.layouts.proofs.FlatLaws.{length-flat}
+use Rattle.scanning.specs.Grammar.{setSize}
 use Rattle.grouping.specs.Grouped.{ruleAt, rulesAt, setsAt, endAt}
-
-pub flat-append : (a b : List Rule) → flat (a ++ b) ≡ flat a ++ flat b
-flat-append [] b = refl
-flat-append (r ∷ a) b = ap (λ (l : List ℕ). r .components ++ l) (flat-append a b) ∙ sym (append-assoc (r .components) (flat a) (flat b))
 
 pub length-rule : (n lead : ℕ) (b : List ℕ) (p : ℕ) → 0 < n → length (ruleAt n lead b p .components) ≡ n
 unfolding ruleAt
@@ -25,11 +23,13 @@ unfolding rulesAt
 length-rules n lead zero b p = refl
 length-rules n lead (suc c) b p = ap suc (length-rules n lead c b (p + (2 + 2 * n)))
 
-pub length-flat : (n lead c : ℕ) (b : List ℕ) (p : ℕ) → 0 < n → length (flat (rulesAt n lead c b p)) ≡ c * n
-unfolding rulesAt
-length-flat n lead zero b p h = sym (zero-mul n)
-length-flat n lead (suc c) b p h =
-    omega (arith, length-append (ruleAt n lead b p .components) (flat (rulesAt n lead c b (p + (2 + 2 * n)))), length-rule n lead b p h, length-flat n lead c b (p + (2 + 2 * n)) h)
+wide-at : (n lead c : ℕ) (b : List ℕ) (p : ℕ) → 0 < n → Wide n (rulesAt n lead c b p)
+unfolding Wide rulesAt
+wide-at n lead zero b p h = tt
+wide-at n lead (suc c) b p h = (length-rule n lead b p h, wide-at n lead c b (p + (2 + 2 * n)) h)
+
+pub length-parts : (n lead c : ℕ) (b : List ℕ) (p : ℕ) → 0 < n → length (flat (rulesAt n lead c b p)) ≡ c * n
+length-parts n lead c b p h = length-flat n (rulesAt n lead c b p) (wide-at n lead c b p h) ∙ ap (λ (m : ℕ). m * n) (length-rules n lead c b p)
 
 -- ---- of all sets
 pub sets-next :
@@ -48,12 +48,12 @@ end-is n (lead ∷ leads) b p =
     end-is n leads b (p + setSize n c)
     ∙ rw (length-append (rulesAt n lead c b (p + 2 + 2 * c)) (setsAt n leads b (p + setSize n c)), length-rules n lead c b (p + 2 + 2 * c)) (omega arith)
 
-pub flat-sets : (n : ℕ) (leads b : List ℕ) (p : ℕ) → 0 < n → length (flat (setsAt n leads b p)) ≡ length (setsAt n leads b p) * n
-unfolding setsAt
-flat-sets n [] b p h = sym (zero-mul n)
-flat-sets n (lead ∷ leads) b p h =
+wide-sets : (n : ℕ) (leads b : List ℕ) (p : ℕ) → 0 < n → Wide n (setsAt n leads b p)
+unfolding Wide setsAt
+wide-sets n [] b p h = tt
+wide-sets n (lead ∷ leads) b p h =
     let c : ℕ = wordAt b p in
-    let rs : List Rule = rulesAt n lead c b (p + 2 + 2 * c) in
-    let others : List Rule = setsAt n leads b (p + setSize n c) in
-    ap length (flat-append rs others) ∙ length-append (flat rs) (flat others)
-    ∙ rw (length-flat n lead c b (p + 2 + 2 * c) h, flat-sets n leads b (p + setSize n c) h, length-append rs others, length-rules n lead c b (p + 2 + 2 * c)) (omega arith)
+    wide-append n (rulesAt n lead c b (p + 2 + 2 * c)) (setsAt n leads b (p + setSize n c)) (wide-at n lead c b (p + 2 + 2 * c) h) (wide-sets n leads b (p + setSize n c) h)
+
+pub flat-sets : (n : ℕ) (leads b : List ℕ) (p : ℕ) → 0 < n → length (flat (setsAt n leads b p)) ≡ length (setsAt n leads b p) * n
+flat-sets n leads b p h = length-flat n (setsAt n leads b p) (wide-sets n leads b p h)

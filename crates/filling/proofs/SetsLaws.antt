@@ -10,11 +10,13 @@ use Rattle.laws.proofs.PasteLaws.{length-pasted, paste-none, paste-behind}
 use Rattle.words.specs.Words.{wordAt, wordsAt}
 use Rattle.words.proofs.WordLaws.{length-words}
 use Rattle.layouts.specs.Tables.{Rule}
-use Rattle.scanning.specs.Grammar.{setSize, flat, ligaturesOf}
+use Rattle.layouts.specs.Lookups.{flat, ligatures as ligaturesOf}
+use Rattle.layouts.proofs.FlatLaws.{flat-append}
+use Rattle.scanning.specs.Grammar.{setSize}
 use Rattle.grouping.specs.Grouped.{rulesAt, setsAt, endAt, leadsAt}
 use Rattle.grouping.proofs.GoingLaws.{end-next}
 use Rattle.filling.specs.Filled.{Filled}
-use Rattle.filling.proofs.RuleLaws.{flat-append, length-rules, length-flat, sets-next, end-is}
+use Rattle.filling.proofs.RuleLaws.{length-rules, length-parts, sets-next, end-is}
 
 -- before a set at byte p, with it and others to come: their rules, written over what is there, make what all of them were to make
 pub record Filling (n s : ℕ) (b components ligatures : List ℕ) (left leads p x i : ℕ) (now here : List ℕ) : Type 0 where
@@ -35,7 +37,7 @@ module _ (n s : ℕ) (b components ligatures : List ℕ) where
 
   module _ (left leads p x i : ℕ) (now here : List ℕ) (g : Filling n s b components ligatures left leads p x i now here) where
     pub filling-ends : left ≡ 0 → Filled (setsAt n (leadsAt s b) b (18 + 4 * s)) components 0 ligatures 0 now here
-    unfolding setsAt wordsAt
+    unfolding setsAt wordsAt flat
     filling-ends z =
         record {
           parts = sym (paste-none x now) ∙ ap (λ (m : ℕ). pasted (flat (setsAt n (wordsAt b leads m) b p)) x now) (sym z) ∙ g .parts;
@@ -74,13 +76,13 @@ module _ (n s : ℕ) (b components ligatures : List ℕ) where
             let flats = ap length (ap flat split ∙ flat-append rs others) ∙ length-append (flat rs) (flat others) in
             let lengths = ap length split ∙ length-append rs others in (
               omega (arith, end-is n (wordsAt b (leads + 2) (left - 1)) b (p + setSize n c), ends-on, within),
-              (omega (arith, g .room, flats, length-flat n lead c b (p + 2 + 2 * c) low), omega (arith, g .space, lengths, length-rules n lead c b (p + 2 + 2 * c))),
+              (omega (arith, g .room, flats, length-parts n lead c b (p + 2 + 2 * c) low), omega (arith, g .space, lengths, length-rules n lead c b (p + 2 + 2 * c))),
             )
 
         pub filling-next : (d t : List ℕ) → Filled rs now x here i d t → Filling n s b components ligatures (left - 1) (leads + 2) (p + setSize n c) (x + c * n) (i + c) d t
         filling-next d t f =
             let fits = filling-fits in
-            let flats : length (flat rs) ≡ c * n = length-flat n lead c b (p + 2 + 2 * c) low in
+            let flats : length (flat rs) ≡ c * n = length-parts n lead c b (p + 2 + 2 * c) low in
             let lengths : length (ligaturesOf rs) ≡ c = length-map rs _ ∙ length-rules n lead c b (p + 2 + 2 * c) in
             let others-long : length (ligaturesOf others) ≡ length others = length-map others _ in
             let same : length d ≡ length now = ap length (f .parts) ∙ length-pasted (flat rs) x now (omega (arith, flats, fits .1 .0)) in

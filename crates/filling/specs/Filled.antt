@@ -5,7 +5,7 @@ use mathlib.Core.List.{List}
 use Prim.Native.Nat.{ℕ}
 use Rattle.laws.specs.Lists.{pasted}
 use Rattle.layouts.specs.Tables.{Rule}
-use Rattle.scanning.specs.Grammar.{flat, ligaturesOf}
+use Rattle.layouts.specs.Lookups.{flat, ligatures as ligaturesOf}
 
 pub record Filled (rules : List Rule) (components : List ℕ) (x : ℕ) (ligatures : List ℕ) (i : ℕ) (components′ ligatures′ : List ℕ) : Type 0 where
   pub parts : components′ ≡ pasted (flat rules) x components

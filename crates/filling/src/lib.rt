@@ -3,7 +3,7 @@ ghost use mathlib.Core.Path.{_≡_};
 ghost use Prim.Native.Nat.{_+_, _*_, _<_, _≤_};
 ghost use lib.ListN.{length};
 ghost use Rattle.laws.specs.Lists.{pasted};
-ghost use Rattle.scanning.specs.Grammar.{flat};
+ghost use Rattle.layouts.specs.Lookups.{flat};
 ghost use Rattle.grouping.specs.Grouped.{ruleAt, rulesAt, setsAt, endAt, leadsAt};
 ghost use Rattle.filling.specs.Filled.{Filled};
 

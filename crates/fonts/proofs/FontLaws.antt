@@ -3,8 +3,8 @@
 use mathlib.Core.Path.{_≡_, refl, sym, ap, _∙_}
 use mathlib.Core.Bool.{Bool, true, false, cond}
 use mathlib.Core.List.{List, [], _∷_}
-use Prim.Native.Nat.{ℕ, zero, suc, _+_, _-_, _*_, _/_, _^_, _≤_, _<_, min}
-use native.Mathlib.Nat.{min-eq-left, min-eq-right, pow-zero, pow-suc}
+use Prim.Native.Nat.{ℕ, zero, suc, _+_, _-_, _*_, _/_, _^_, _≤_, _<_}
+use native.Mathlib.Nat.{pow-zero, pow-suc}
 use native.Mathlib.Omega.{arith}
 use borrow.Author.Tests.{eq-eqb, ne-eqb, ltb-true, ltb-false}
 use lib.Dec.{ltb}
@@ -12,7 +12,7 @@ use lib.Pow.{pow-pos}
 use lib.ListN.{length, getD}
 use Rattle.refusals.specs.Columns.{rising}
 use Rattle.refusals.proofs.ColumnLaws.{rising-at}
-use Rattle.fonts.specs.Font.{fontOf, Sound, Span, absent, glyphAmong, numberFound}
+use Rattle.fonts.specs.Font.{fontOf, Sound, Span, absent, glyphAmong, numberFound, Usable}
 use Rattle.letters.specs.declared.Glyph.{Glyph}
 use Rattle.fonts.specs.declared.Found.{Found}
 use Rattle.fonts.specs.declared.Found.the-variants.{At, Absent}
@@ -196,36 +196,28 @@ searching-nowhere codes gs x e = sym (glyph-none codes gs x (λ k q r. omega ari
 
 -- ---- the glyph that a rule may use, by what a search answered
 module _ {f : Found} {n : ℕ} (e : numberFound f ≡ n) where
-  pub usable-glyph : {g : Glyph} → f ≡ At g → g .0 ≤ 65535 → g .0 ≡ min n 65536
+  pub usable-glyph : {g : Glyph} → f ≡ At g → g .0 ≤ 65535 → Usable (At g) n
   usable-glyph {g} p h =
       let z : g .0 ≡ n = sym (ap numberFound p) ∙ e in
-      z ∙ sym (min-eq-left (omega arith))
+      (z, omega arith)
 
-  pub large-glyph : {g : Glyph} → f ≡ At g → 65535 < g .0 → 65536 ≡ min n 65536
+  pub large-glyph : {g : Glyph} → f ≡ At g → 65535 < g .0 → Usable Absent n
   large-glyph {g} p h =
       let z : g .0 ≡ n = sym (ap numberFound p) ∙ e in
-      sym (min-eq-right (omega arith))
+      omega arith
 
-  pub no-glyph : f ≡ Absent → 65536 ≡ min n 65536
+  pub no-glyph : f ≡ Absent → Usable Absent n
   no-glyph p =
       let z : absent ≡ n = sym (ap numberFound p) ∙ e in
-      sym (min-eq-right (omega arith))
+      omega arith
 
--- what that glyph says of the font's own
-module _ {n g : ℕ} (e : g ≡ min n 65536) where
-  either : (t : Bool) → ltb n 65536 ≡ t → (g ≤ 65535 → g ≡ n) × (65535 < g → 65536 ≤ n)
-  either true p =
-      let z : g ≡ n = e ∙ min-eq-left (omega (arith, ltb-true n 65536 p)) in
-      (λ h. z, λ h. omega arith)
-  either false p =
-      let z : g ≡ 65536 = e ∙ min-eq-right (ltb-false n 65536 p) in
-      (λ h. absurd (omega arith), λ h. ltb-false n 65536 p)
+-- and what it says of the font's own
+module _ {r : Found} {n : ℕ} (u : Usable r n) where
+  pub glyph-told : {g : Glyph} → r ≡ At g → (g .0 ≡ n) × (n < 65536)
+  glyph-told e = rw e at u
 
-  pub glyph-told : g ≤ 65535 → g ≡ n
-  glyph-told = either (ltb n 65536) refl .0
-
-  pub glyph-missing : 65535 < g → 65536 ≤ n
-  glyph-missing = either (ltb n 65536) refl .1
+  pub glyph-missing : r ≡ Absent → 65536 ≤ n
+  glyph-missing e = rw e at u
 
 -- ---- one answer, since a glyph is of 32 bits
 abbrev pub Small : Found → Type 0

@@ -1,4 +1,4 @@
--- A font's map from code points to glyphs, two columns: `Font`, `fontOf` the map; `Sound` what is asked of one; `Span` the window that a search of it begins with; `absent`, `glyphAmong`, `glyphOf` the glyph of a code, or none; `numberFound` what a search answers.
+-- A font's map from code points to glyphs, two columns: `Font`, `fontOf` the map; `Sound` what is asked of one; `Span` the window that a search of it begins with; `absent`, `glyphAmong`, `glyphOf` the glyph of a code, or none; `numberFound` what a search answers, `Usable` what one for a rule does.
 -- Assumes nothing.
 use mathlib.Core.Path.{_≡_}
 use mathlib.Core.Bool.{true, cond}
@@ -47,3 +47,8 @@ glyphOf f c = glyphAmong (f .codes) (f .glyphs) c
 abbrev pub numberFound : Found → ℕ
 numberFound (At g) = g .0
 numberFound Absent = absent
+
+-- what a search for a rule answers of a code whose glyph is n: "Glyphs above 65,535 count as absent in rules"
+abbrev pub Usable : Found → ℕ → Type 0
+Usable (At g) n = (g .0 ≡ n) × (n < 65536)
+Usable Absent n = 65536 ≤ n

@@ -1,10 +1,9 @@
 // Fonts: the map from code points to glyphs that a font lends, searched by powers of two.
 ghost use mathlib.Core.Path.{_≡_};
 ghost use mathlib.Core.Bool.{cond};
-ghost use Prim.Native.Nat.{min};
 ghost use lib.Dec.{ltb};
 ghost use lib.ListN.{length};
-ghost use Rattle.fonts.specs.Font.{fontOf, Sound, Span, glyphOf, numberFound};
+ghost use Rattle.fonts.specs.Font.{fontOf, Sound, Span, glyphOf, numberFound, Usable};
 use letters::Code;
 use letters::Glyph;
 
@@ -56,19 +55,18 @@ pub fn nominal_glyph(codes: &[u32], glyphs: &[u32], span: usize, code: Code) -> 
     Found::Absent
 }
 
-// The glyph of a code that a rule may use; 65,536 where there is none, or one above 65,535.
-pub fn glyph_for_codepoint(codes: &[u32], glyphs: &[u32], span: usize, code: Code) -> Glyph
+// The glyph of a code that a rule may use: absent where there is none, or one above 65,535.
+pub fn glyph_for_codepoint(codes: &[u32], glyphs: &[u32], span: usize, code: Code) -> Found
     requires { ⌜ Sound (fontOf (now codes) (now glyphs)) × Span (length (now codes)) span ⌝ }
-    ensures { λ r. ⌜ r .0 ≡ min (glyphOf (fontOf (now (codes .entry)) (now (glyphs .entry))) (code .0)) 65536 ⌝ }
+    ensures { λ r. ⌜ Usable r (glyphOf (fontOf (now (codes .entry)) (now (glyphs .entry))) (code .0)) ⌝ }
 {
     match nominal_glyph(codes, glyphs, span, code) {
         Found::At(glyph) => {
-            let g = glyph.0;
-            if 65535 < g {
-                return Glyph(65536);
+            if 65535 < glyph.0 {
+                return Found::Absent;
             }
-            Glyph(g)
+            Found::At(glyph)
         }
-        Found::Absent => Glyph(65536),
+        Found::Absent => Found::Absent,
     }
 }

@@ -1,9 +1,9 @@
--- Rules and sets of a ligature lookup, over the number n of components: rules of n components (`Wide`, `wide-part`, `wide-rules`); where they begin in a set (`offsets-rules`) and how many bytes they take (`length-bodies`, `set-size`); when a set fits (`set-fits`);
+-- Rules and sets of a ligature lookup, over the number n of components: rules of n components (`Wide`, `wide-drop`, `wide-take`, `wide-append`, `wide-rules`); where they begin in a set (`offsets-rules`) and how many bytes they take (`length-bodies`, `set-size`); when a set fits (`set-fits`);
 -- the first set is the rules that begin alike (`run`, `sets-run`); each set has a rule, of n components, and they are all the rules (`Grouped`, `grouped`).
 -- Assumes nothing.
 use mathlib.Core.Path.{_≡_, refl, sym, ap, _∙_}
 use mathlib.Core.Bool.{Bool, true, false, cond, _&&_}
-use mathlib.Core.List.{List, [], _∷_, map}
+use mathlib.Core.List.{List, [], _∷_, _++_, map}
 use Prim.Native.Nat.{ℕ, zero, suc, _+_, _*_, _<_}
 use native.Mathlib.Nat.{zero-mul}
 use native.Mathlib.Omega.{arith}
@@ -32,6 +32,11 @@ wide-take n [] zero w = w
 wide-take n [] (suc i) w = w
 wide-take n (r ∷ rs) zero w = tt
 wide-take n (r ∷ rs) (suc i) w = (w .0, wide-take n rs i (w .1))
+
+pub wide-append : (n : ℕ) (g rs : List Rule) → Wide n g → Wide n rs → Wide n (g ++ rs)
+unfolding Wide
+wide-append n [] rs v w = w
+wide-append n (r ∷ g) rs v w = (v .0, wide-append n g rs (v .1) w)
 
 -- "flat components number N times the ligatures"
 pub wide-rules : (n : ℕ) (cs ls : List ℕ) → length cs ≡ length ls * n → Wide n (rules n cs ls)

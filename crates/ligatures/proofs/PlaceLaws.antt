@@ -1,5 +1,5 @@
--- The rules that two columns hold, by their places: the next one (`rules-next`, `part-next`, `part-none`), how many a part has (`length-part`), where a rule's components stand (`inside`, `first-at`, `rule-words`, `others-one`, `others-two`);
--- the walk to the end of a set (`runFrom`, `run-on`, `run-ends`, `run-over`, `set-found`); what begins a part that is a set (`leader-at`), and that no set is left (`sets-none`); a rule written (`one-written`, `two-written`, `rule-written`).
+-- The rules that two columns hold, by their places: the next one (`rules-next`, `part-next`, `part-none`), how many a part has (`length-part`), where a rule's components stand (`inside`, `first-at`, `rule-words`), and that those behind the first are written one by one (`other-written`, `others-written`);
+-- the walk to the end of a set (`runFrom`, `run-on`, `run-ends`, `run-over`, `set-found`); what begins a part that is a set (`leader-at`), and that no set is left (`sets-none`); a rule written (`rule-written`).
 -- Assumes nothing.
 use mathlib.Core.Path.{_≡_, refl, sym, ap, _∙_}
 use mathlib.Core.List.{List, [], _∷_}
@@ -11,7 +11,7 @@ use lib.ListN.{length, getD, take, drop, drop-of-length-le, length-take, length-
 use lib.Seq.{drop-drop, drop-cons, getD-take, getD-drop, take-nil}
 use Rattle.words.specs.Words.{Wrote}
 use Rattle.words.proofs.WordLaws.{one-less}
-use Rattle.words.proofs.WroteLaws.{then, frame, step}
+use Rattle.words.proofs.WroteLaws.{begin, then, frame, step}
 use Rattle.layouts.specs.Tables.{first, leader, sets, ruleWords}
 use Rattle.layouts.specs.Lookups.{rules}
 use Rattle.layouts.proofs.SetLaws.{run, run-more, run-stop, sets-run}
@@ -61,26 +61,15 @@ pub rule-words : (n : ℕ) (cs ls : List ℕ) (k : ℕ) → ruleWords n (ruleAt 
 unfolding ruleWords
 rule-words n cs ls k = rw (behind-first n (drop (k * n) cs), drop-drop)
 
--- one or two of them
-module _ (n : ℕ) (cs : List ℕ) (i : ℕ) (h : i + n ≤ length cs) where
-  pub others-one : n ≡ 2 → take (n - 1) (drop (i + 1) cs) ≡ getD cs (i + 1) 0 ∷ []
-  others-one e = rw (e, drop-cons cs (i + 1) 0 (omega (arith, e)))
+-- they are written one by one: one of k + 1, and the k behind it; and no more
+pub other-written :
+    (cs : List ℕ) (i j k : ℕ) → i < length cs → j ≡ i + 1 → {d t u : List ℕ} {at a b : ℕ} → Wrote d at (getD cs i 0 ∷ []) t a [] → Wrote t a (take k (drop j cs)) u b []
+    → Wrote d at (take (k + 1) (drop i cs)) u b []
+other-written cs i j k h e p q =
+    rw (add-one k, drop-cons cs i 0 h, ← add-one i, ← e) (then (frame (take k (drop j cs)) (omega (arith, p .room, p .place, p .same, q .room)) p) q)
 
-  pub others-two : n ≡ 3 → take (n - 1) (drop (i + 1) cs) ≡ getD cs (i + 1) 0 ∷ getD cs (i + 2) 0 ∷ []
-  others-two e =
-      let on : suc (i + 1) ≡ i + 2 = omega arith in
-      rw e
-      (ap (take 2)
-      (drop-cons cs (i + 1) 0 (omega (arith, e)) ∙ ap (λ (m : ℕ). getD cs (i + 1) 0 ∷ drop m cs) on ∙ ap (λ (l : List ℕ). getD cs (i + 1) 0 ∷ l) (drop-cons cs (i + 2) 0 (omega (arith, e)))))
-
-  -- written by one call, or by two
-  pub one-written : n ≡ 2 → {d t : List ℕ} {at a : ℕ} → Wrote d at (getD cs (i + 1) 0 ∷ []) t a [] → Wrote d at (take (n - 1) (drop (i + 1) cs)) t a []
-  one-written e p = rw (others-one e) p
-
-  pub two-written :
-      n ≡ 3 → {d t u : List ℕ} {at a b : ℕ} → at + 2 * (n - 1) ≤ length d → Wrote d at (getD cs (i + 1) 0 ∷ []) t a [] → Wrote t a (getD cs (i + 2) 0 ∷ []) u b []
-      → Wrote d at (take (n - 1) (drop (i + 1) cs)) u b []
-  two-written e room p q = rw (others-two e) (then (frame (getD cs (i + 2) 0 ∷ []) (omega (arith, room, e)) p) q)
+pub others-written : {d t ws : List ℕ} {at a : ℕ} → Wrote d at ws t a [] → Wrote t a [] t a []
+others-written {t} {a} p = begin t a [] (omega (arith, p .room, p .place, p .same))
 
 -- ---- the walk to the end of a set
 -- how many rules from e on begin with f

@@ -10,8 +10,9 @@ pub fn mask_of(features: &[u32; 7], base: u32, action: Action) -> u32
     requires { ⌜ length (now features) ≡ 7 ⌝ }
     ensures { λ r. ⌜ r ≡ mask (now (features .entry)) base (action .0) ⌝ }
 {
-    if action.0 < 7 {
-        return base | features[action.0 as usize];
+    let entry = action.number();
+    if entry < 7 {
+        return base | features[entry as usize];
     }
     base
 }
@@ -24,7 +25,7 @@ fn fill(features: &[u32; 7], base: &[u32], actions: &[u8], masks: &mut [u32])
 {
     let mut i = 0;
     while i < base.len() {
-        masks[i] = mask_of(features, base[i], Action(actions[i]));
+        masks[i] = mask_of(features, base[i], Action::new(actions[i]));
         i += 1;
     }
 }

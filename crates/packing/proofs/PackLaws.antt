@@ -1,16 +1,14 @@
 -- Of rules that are one number: such a number is the rule again (`unpacked-pack`), has 64 bits (`pack-bound`), and its lowest 16 bits are the first component (`low-pack`).
--- Of rules of n components: their columns are the rules again (`rules-flat`), and how long the column of components is (`length-flat`); what a number is unpacked to are such rules (`length-digits`, `wide-unpacked`).
+-- What a number is unpacked to are rules of n components (`length-digits`, `wide-unpacked`).
 -- Assumes nothing.
 use mathlib.Core.Path.{_≡_, refl, sym, ap, ap₂, _∙_}
 use mathlib.Core.Bool.{true}
 use mathlib.Core.List.{List, [], _∷_, map}
 use Prim.Native.Nat.{ℕ, zero, suc, _+_, _*_, _/_, _%_, _≤_, _<_}
 use native.Mathlib.Omega.{arith}
-use native.Mathlib.Nat.{zero-mul}
-use lib.ListN.{length, getD, length-append}
-use lib.Seq.{take-at, drop-at}
+use lib.ListN.{length, getD}
 use Rattle.layouts.specs.Tables.{Rule, first}
-use Rattle.layouts.specs.Lookups.{rules, flat, ligatures, fits}
+use Rattle.layouts.specs.Lookups.{fits}
 use Rattle.layouts.proofs.FitLaws.{fits-head}
 use Rattle.layouts.proofs.SetLaws.{Wide}
 use Rattle.packing.specs.Packed.{packed, pack, digits, above, unpacked}
@@ -70,18 +68,6 @@ low-pack r h f = go (r .components) h (fits-head (r .ligature) (r .components) f
     go : (cs : List ℕ) → 1 ≤ length cs → fits cs ≡ true → packed cs (r .ligature) % 65536 ≡ getD cs 0 0
     go [] h f = absurd (omega arith)
     go (c ∷ cs) h f = lowest c (packed cs (r .ligature)) (fits-head c cs f .0)
-
--- ---- rules of n components
-pub length-flat : (n : ℕ) (rs : List Rule) → Wide n rs → length (flat rs) ≡ length rs * n
-unfolding Wide flat
-length-flat n [] w = sym (zero-mul n)
-length-flat n (r ∷ rs) w = omega (arith, length-append (r .components) (flat rs), length-flat n rs (w .1), w .0)
-
-pub rules-flat : (n : ℕ) (rs : List Rule) → Wide n rs → rules n (flat rs) (ligatures rs) ≡ rs
-unfolding Wide flat rules
-rules-flat n [] w = refl
-rules-flat n (r ∷ rs) w =
-    rw (take-at (r .components) (flat rs) n (w .0), drop-at (r .components) (flat rs) n (w .0)) (ap (λ (x : List Rule). r ∷ x) (rules-flat n rs (w .1)))
 
 -- ---- what a number is unpacked to
 pub length-digits : (n x : ℕ) → length (digits n x) ≡ n

@@ -10,7 +10,8 @@ use Rattle.laws.proofs.LoopLaws.{drop-next}
 use Rattle.laws.proofs.PasteLaws.{length-pasted, paste-none, paste-one, paste-behind}
 use Rattle.layouts.specs.Lookups.{flat, ligatures}
 use Rattle.packing.specs.Packed.{digits, above, unpacked}
-use Rattle.packing.proofs.PackLaws.{length-flat, length-digits, wide-unpacked}
+use Rattle.layouts.proofs.FlatLaws.{length-flat}
+use Rattle.packing.proofs.PackLaws.{length-digits, wide-unpacked}
 
 -- an element is stored before a part that is still to be put
 set-before : (l : List ℕ) (i x : ℕ) (P : List ℕ) → i + (1 + length P) ≤ length l → pasted P (i + 1) (set l i x) ≡ pasted (x ∷ P) i l

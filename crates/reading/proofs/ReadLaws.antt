@@ -12,11 +12,11 @@ use lib.ListN.{length, drop, length-map}
 use Rattle.refusals.specs.declared.Refusal.the-variants.{NoLookup, NoRoom}
 use Rattle.layouts.specs.declared.Kind.{Kind}
 use Rattle.layouts.specs.declared.Kind.the-variants.{Single, Ligature}
-use Rattle.layouts.specs.Lookups.{Lookup}
+use Rattle.layouts.specs.Lookups.{Lookup, flat, ligatures}
 use Rattle.words.specs.Words.{wordAt, wordsAt}
 use Rattle.words.proofs.WordLaws.{length-words, paste-front}
 use Rattle.scanning.specs.Scans.{Scan, fine, wrong, short}
-use Rattle.scanning.specs.Grammar.{flat, ligaturesOf, reading}
+use Rattle.scanning.specs.Grammar.{reading}
 use Rattle.grouping.specs.Grouped.{leadsAt}
 use Rattle.filling.specs.Filled.{Filled}
 use Rattle.filling.proofs.RuleLaws.{end-is, flat-sets}
@@ -126,7 +126,7 @@ module _ (m : ℕ) (b g s : List ℕ) (h : Held (Ligature m) b) (low : 2 ≤ m) 
     unfolding lookupAt
     ligature-read e flags f g′ s′ d =
         read-whole b (columns g s) (lookupAt (Ligature m) b) (h .said) (rooms false e) (Read (record { flags = flags; len = n; kind = Ligature m })) refl (columns g′ s′)
-        (rw (f, d .parts, d .wholes, paste-front (flat (rulesIn m b)) g, paste-front (ligaturesOf (rulesIn m b)) s, rules-count, length-map))
+        (rw (f, d .parts, d .wholes, paste-front (flat (rulesIn m b)) g, paste-front (ligatures (rulesIn m b)) s, rules-count, length-map))
 
 -- ---- what was recognized
 pub held-none : (b : List ℕ) {r : Recognized} → r ≡ Nothing → Recognizing b r → (l : Lookup) → reading b ≡ fine l → ⊥

@@ -13,6 +13,7 @@ use Rattle.layouts.specs.declared.Kind.the-variants.{Single, Ligature}
 use Rattle.layouts.specs.Lookups.{Lookup}
 use Rattle.scanning.specs.Scans.{Scan, Rest, fine, wrong, short, end, further}
 use Rattle.scanning.specs.Grammar.{singleScan, ligatureScan, scan, reading, leftOver}
+use Rattle.scanning.proofs.KindLaws.{further-second}
 use Rattle.accepting.specs.declared.Scanned.{Scanned}
 use Rattle.accepting.specs.declared.Scanned.the-variants.{At, Wrong, Short}
 use Rattle.accepting.specs.Scanned.{from, after, Took}
@@ -66,12 +67,6 @@ module _ (part : (Lookup → Rest) → Rest) {l : Lookup} {e : ℕ} (b : List �
   scan-other Short t h x f = short-other x (sym (t .goes end) ∙ f)
 
 -- ---- the three kinds
--- of two scans the second is told if the first is not fine
-further-second : (s : Scan) (l : Lookup) → Other s → further s (fine l) ≡ fine l
-further-second (fine m) l o = absurd (o m refl)
-further-second (wrong n) l o = refl
-further-second short l o = refl
-
 further-none : (s t : Scan) → Other s → Other t → Other (further s t)
 further-none (fine m) t o p = absurd (o m refl)
 further-none (wrong n) (fine m) o p = absurd (p m refl)
@@ -109,11 +104,11 @@ module _ (b : List ℕ) where
 
     module _ (first : Other (singleScan 0 (from b 0))) where
       pub read-pairs : {l : Lookup} → ligatureScan 2 (from b 0) ≡ fine l → reading b ≡ fine l
-      read-pairs {l} e = scanned ∙ rw e (further-second (singleScan 0 (from b 0)) l first)
+      read-pairs {l} e = scanned ∙ further-second (singleScan 0 (from b 0)) _ l first (rw e)
 
       module _ (second : Other (ligatureScan 2 (from b 0))) where
         pub read-triples : {l : Lookup} → ligatureScan 3 (from b 0) ≡ fine l → reading b ≡ fine l
-        read-triples {l} e = scanned ∙ rw (e, further-second (ligatureScan 2 (from b 0)) l second) (further-second (singleScan 0 (from b 0)) l first)
+        read-triples {l} e = scanned ∙ further-second (singleScan 0 (from b 0)) _ l first (further-second (ligatureScan 2 (from b 0)) _ l second e)
 
         pub read-none : Other (ligatureScan 3 (from b 0)) → Other (reading b)
         read-none third = rw scanned (further-none (singleScan 0 (from b 0)) _ first (further-none (ligatureScan 2 (from b 0)) (ligatureScan 3 (from b 0)) second third))

@@ -11,9 +11,9 @@ use Rattle.accepting.proofs.Scanned.{the-type}
 use Rattle.words.specs.Words.{wordAt, wordsAt}
 use Rattle.layouts.specs.declared.Kind.the-variants.{Single, Ligature}
 use Rattle.layouts.specs.Tables.{Rule}
-use Rattle.layouts.specs.Lookups.{Lookup, lookupOf}
+use Rattle.layouts.specs.Lookups.{Lookup, lookupOf, flat, ligatures}
 use Rattle.scanning.specs.Scans.{Rest, exactly, several}
-use Rattle.scanning.specs.Grammar.{headed, counted, covered, mostSingle, mostSets, starts, settled, flat, ligaturesOf}
+use Rattle.scanning.specs.Grammar.{headed, counted, covered, mostSingle, mostSets, starts, settled}
 use Rattle.accepting.specs.declared.Scanned.{Scanned}
 use Rattle.accepting.specs.declared.Scanned.the-variants.{At, Wrong, Short}
 use Rattle.accepting.specs.Scanned.{Took, these, Counts}
@@ -115,7 +115,7 @@ sets-few n s m low high e h = let k = le-div-iff-mul-le {k = 10 + 2 * n} (omega 
 
 module _ (n : ℕ) (b : List ℕ) where
   abbrev made : (ℕ × ℕ) → List Rule → Lookup
-  made x rules = lookupOf (x .0) (Ligature n) (flat rules) (ligaturesOf rules)
+  made x rules = lookupOf (x .0) (Ligature n) (flat rules) (ligatures rules)
 
   abbrev placed : (ℕ × ℕ) → (Lookup → Rest) → Rest
   placed x k = starts n (x .1) (λ os. covered 1 (x .1) (λ leads. settled n leads os (λ rules. k (made x rules))))

@@ -10,9 +10,9 @@ use Rattle.words.specs.Words.{wordAt, wordsAt}
 use Rattle.layouts.specs.declared.Kind.{Kind}
 use Rattle.layouts.specs.declared.Kind.the-variants.{Single, Ligature}
 use Rattle.layouts.specs.Tables.{Rule}
-use Rattle.layouts.specs.Lookups.{Lookup, lookupOf}
+use Rattle.layouts.specs.Lookups.{Lookup, lookupOf, flat, ligatures}
 use Rattle.scanning.specs.Scans.{Rest, fine, exactly, several}
-use Rattle.scanning.specs.Grammar.{headed, counted, covered, mostSingle, mostSets, starts, settled, flat, ligaturesOf, reading}
+use Rattle.scanning.specs.Grammar.{headed, counted, covered, mostSingle, mostSets, starts, settled, reading}
 use Rattle.accepting.specs.declared.Scanned.{Scanned}
 use Rattle.accepting.specs.declared.Scanned.the-variants.{At, Wrong, Short}
 use Rattle.accepting.specs.Scanned.{Took}
@@ -34,7 +34,7 @@ rulesIn n b = setsAt n (leadsAt (countAt b) b) b (18 + 4 * countAt b)
 
 unfoldable pub lookupAt : Kind → List ℕ → Lookup
 lookupAt Single b = lookupOf (wordAt b 2) Single (wordsAt b (18 + 2 * countAt b) (countAt b)) (wordsAt b 14 (countAt b))
-lookupAt (Ligature n) b = lookupOf (wordAt b 2) (Ligature n) (flat (rulesIn n b)) (ligaturesOf (rulesIn n b))
+lookupAt (Ligature n) b = lookupOf (wordAt b 2) (Ligature n) (flat (rulesIn n b)) (ligatures (rulesIn n b))
 
 unfoldable pub endOf : Kind → List ℕ → ℕ
 endOf Single b = 18 + 4 * countAt b
@@ -55,7 +55,7 @@ SingleTaken b r = Took singlePart (lookupAt Single b) (endOf Single b) b 0 r
 
 abbrev pub ligaturePart : ℕ → (Lookup → Rest) → Rest
 ligaturePart n k =
-    begun 4 1 (mostSets n) (λ x. starts n (x .1) (λ os. covered 1 (x .1) (λ leads. settled n leads os (λ rules. k (lookupOf (x .0) (Ligature n) (flat rules) (ligaturesOf rules))))))
+    begun 4 1 (mostSets n) (λ x. starts n (x .1) (λ os. covered 1 (x .1) (λ leads. settled n leads os (λ rules. k (lookupOf (x .0) (Ligature n) (flat rules) (ligatures rules))))))
 
 abbrev pub LigatureTaken : ℕ → List ℕ → Scanned → Type 0
 LigatureTaken n b r = Took (ligaturePart n) (lookupAt (Ligature n) b) (endOf (Ligature n) b) b 0 r

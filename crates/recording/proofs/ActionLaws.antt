@@ -10,7 +10,8 @@ use lib.ListN.{length, getD, take, drop, set, length-set, drop-of-length-le}
 use lib.Seq.{drop-set-lt}
 use Rattle.laws.proofs.LoopLaws.{drop-next, fill-next, fill-end, seen-next, seen-ends}
 use Rattle.laws.proofs.TestLaws.{neither}
-use Rattle.recording.specs.Recorded.{yes, some, newAction, newActions}
+use Rattle.refusals.specs.Columns.{yes}
+use Rattle.recording.specs.Recorded.{some, newAction, newActions}
 
 -- before record i: what the flag says and what is stored, with what is still to come, is the whole
 pub record Stored (ms cs old : List ℕ) (acts : List ℕ) (any : Bool) (i : ℕ) : Type 0 where

@@ -1,4 +1,4 @@
--- Recording `stch` (document 01, "Stretching"): `Request`, `requestOf` what is asked for; `Outcome`, `outcome` what is there afterwards; `yes`, `some` what a yes-or-no column says; `tile`, `newAction`, `newActions` the
+-- Recording `stch` (document 01, "Stretching"): `Request`, `requestOf` what is asked for; `Outcome`, `outcome` what is there afterwards; `some` that a yes-or-no column says yes; `tile`, `newAction`, `newActions` the
 -- action that a record gets; `recorded` what recording gives; `rowsOf`, `recordRows`, `recordRefusal` when it is refused, and with which number; `numberSaid`, `recordedSaid` what an answer says;
 -- `recordAfter`, `Recording` what the call answers and leaves, of every input.
 -- Assumes nothing.
@@ -10,7 +10,7 @@ use lib.Dec.{eqb, ltb}
 use lib.ListN.{length}
 use Rattle.laws.specs.Rows.{Row, Given, first}
 use Rattle.refusals.specs.Numbers.{numberOf}
-use Rattle.refusals.specs.Columns.{lineLimit}
+use Rattle.refusals.specs.Columns.{lineLimit, yes}
 use Rattle.refusals.specs.Left.{Left, After, leaves}
 use Rattle.letters.specs.Actions.{fixed, repeating}
 use Rattle.recording.specs.declared.Answer.{Answer}
@@ -32,10 +32,6 @@ requestOf mask multiplied components = record { mask = mask; multiplied = multip
 
 abbrev pub outcome : Bool → List ℕ → Outcome
 outcome recorded actions = record { recorded = recorded; actions = actions }
-
--- "In a yes-or-no column 0 is no"; and a mask of 0 is none
-abbrev pub yes : ℕ → Bool
-yes n = not (eqb n 0)
 
 -- any of a column says yes
 abbrev pub some : List ℕ → Bool

@@ -82,7 +82,7 @@ fn put(
 {
     let mut i = k;
     while i < end {
-        actions[i] = action.0;
+        actions[i] = action.number();
         masks[i] = masks::mask_of(features, base[i], action);
         i += 1;
     }

@@ -1,20 +1,22 @@
-// Replays cases of refusals: two lengths and a limit u32 x3, a column u8, its bound u8, codes u32 go in; the numbers u8 x5 of the
-// four tests (even, limited, at most, rising) and of the smallest among them come out.
+// Replays cases of refusals: two lengths and a limit u32 x3, a column u8, its bound u8, codes u32 go in; the numbers u8 x5 of
+// four verdicts (lengths that differ, one above the limit, a column above its bound, codes that do not rise) and of the smallest among
+// them come out. They are made as the calls make theirs.
+use refusals::Refusal;
 use replays::Case;
 use tallies::Outcome;
 
-// The number of each test, and of the smallest, which wins whatever stands first.
+// The number of each verdict, and of the smallest, which wins whatever stands first.
 fn numbers(n: usize, m: usize, most: usize, column: &[u8], bound: u8, codes: &[u32]) -> [u8; 5] {
-    let even = refusals::even(n, m);
-    let limited = refusals::limited(n, most);
-    let at_most = refusals::at_most(column, bound);
-    let rising = refusals::rising(codes);
-    let smallest = rising.sooner(limited).sooner(at_most.sooner(even));
+    let uneven = refusals::unless(n == m, Refusal::Uneven);
+    let long = refusals::unless(n <= most, Refusal::TooLong);
+    let strange = refusals::unless(refusals::within(column, bound), Refusal::OutOfRange);
+    let falling = refusals::rising(codes);
+    let smallest = falling.sooner(long).sooner(strange.sooner(uneven));
     [
-        even.number(),
-        limited.number(),
-        at_most.number(),
-        rising.number(),
+        uneven.number(),
+        long.number(),
+        strange.number(),
+        falling.number(),
         smallest.number(),
     ]
 }

@@ -1,10 +1,9 @@
--- A line that is stretched: `Record` the numbers of a record; `glyphOf`, `kept`, `put` those that a copy keeps; `Columns`, `columns` the same of all records, column by column; `recordAt`, `listed`, `lineOf` the records of a line's columns; `columnsOf` the columns of records.
+-- A line that is stretched: `Record` the numbers of a record; `kept`, `put` those that a copy keeps; `Columns`, `columns` the same of all records, column by column; `recordAt`, `listed`, `lineOf` the records of a line's columns; `columnsOf` the columns of records.
 -- Assumes nothing.
 use mathlib.Core.List.{List, [], _∷_, map}
 use Prim.Native.Nat.{ℕ, zero, suc}
 use lib.ListN.{length, getD}
 use lib.IntN.{ℤ, pos}
-use Rattle.letters.specs.declared.Glyph.{Glyph}
 use Rattle.runs.specs.declared.Tile.{Tile}
 
 -- "The line's columns are glyph, width, category, ignorable, action, advance, offset"
@@ -17,13 +16,9 @@ pub record Record : Type 0 where
   pub advance : ℤ
   pub offset : ℤ
 
--- a number as a glyph's
-abbrev pub glyphOf : ℕ → Glyph
-glyphOf n = record { 0 = n }
-
 -- "a copy keeps the first five"; and a record of five with an advance and an offset
 abbrev pub kept : Record → Tile
-kept r = record { glyph = glyphOf (r .glyph); width = r .width; category = r .category; ignorable = r .ignorable; action = r .action }
+kept r = record { glyph = record { 0 = r .glyph }; width = r .width; category = r .category; ignorable = r .ignorable; action = r .action }
 
 abbrev pub put : Tile → ℤ → ℤ → Record
 put t advance offset = record {

@@ -9,6 +9,7 @@ use lib.Dec.{eqb}
 use lib.ListN.{length}
 use lib.IntN.{ℤ, pos}
 use Rattle.laws.specs.Lists.{member, those, front, behind}
+use Rattle.refusals.specs.Columns.{yes}
 use Rattle.letters.specs.Actions.{fixed, repeating}
 use Rattle.letters.specs.Categories.{Cn, Co, Lm, Lo, Mc, Me, Mn, Nd, Nl, No, Sc, Sk, Sm, So}
 use Rattle.fitting.specs.Saturating.{satAdd, satSub}
@@ -30,9 +31,9 @@ isTile r = tileAction (r .action)
 abbrev pub wordCategories : List ℕ
 wordCategories = Cn ∷ Co ∷ Lm ∷ Lo ∷ Mc ∷ Me ∷ Mn ∷ Nd ∷ Nl ∷ No ∷ Sc ∷ Sk ∷ Sm ∷ So ∷ []
 
--- "records that are not 8 or 9 and are default-ignorable or of category .."; "In a yes-or-no column 0 is no"
+-- "records that are not 8 or 9 and are default-ignorable or of category .."
 unfoldable pub wordNumbers : ℕ → ℕ → ℕ → Bool
-wordNumbers action category ignorable = not (tileAction action) && (not (eqb ignorable 0) || member category wordCategories)
+wordNumbers action category ignorable = not (tileAction action) && (yes ignorable || member category wordCategories)
 
 abbrev pub inWord : Record → Bool
 inWord r = wordNumbers (r .action) (r .category) (r .ignorable)

@@ -1,5 +1,5 @@
 -- Rules, their sets and their columns: rules that begin alike (`Alike`, `leader-alike`, `Led`), as those of a set do (`led-sets`); the rules of their sets are the rules (`flatten-sets`), and rules put together from sets whose first glyphs rise fall into these sets (`sets-flatten`); first glyphs do not fall exactly when those of the sets rise (`leaders-rise`, `firsts-rise`);
--- rules of sets of n components are of n (`wide-flatten`), and their columns belong together (`length-flat`); rules are what their columns hold (`rules-flat`), and columns are those of the rules that they hold (`flat-rules`, `ligatures-rules`).
+-- rules of sets of n components are of n (`wide-flatten`).
 -- Assumes nothing.
 use mathlib.Core.Path.{_≡_, refl, sym, ap, _∙_}
 use mathlib.Core.Bool.{Bool, true, false, cond, _&&_}
@@ -14,9 +14,7 @@ use lib.Seq.{take-at, drop-at}
 use Rattle.laws.proofs.TestLaws.{both}
 use Rattle.refusals.specs.Columns.{rising}
 use Rattle.layouts.specs.Tables.{Rule, first, leader, onto, sets}
-use Rattle.layouts.specs.Lookups.{rules}
-use Rattle.layouts.proofs.SetLaws.{Wide, Grouped}
-use Rattle.scanning.specs.Grammar.{flat, ligaturesOf}
+use Rattle.layouts.proofs.SetLaws.{Wide, wide-append, Grouped}
 
 -- ---- numbers of which the first is at least `low`, and each other at least d more than the one before it
 unfoldable rises : ℕ → ℕ → List ℕ → Bool
@@ -156,36 +154,8 @@ firsts-rise-from low (g ∷ gs) k up =
 pub firsts-rise : (gs : List (List Rule)) → Led gs → rising 1 (map leader gs) ≡ true → rising 0 (map first (flatten gs)) ≡ true
 firsts-rise gs k up = rising-rises 0 (map first (flatten gs)) ∙ firsts-rise-from 0 gs k (sym (rising-rises 1 (map leader gs)) ∙ up)
 
--- ---- rules and columns
-wide-append : (n : ℕ) (g rs : List Rule) → Wide n g → Wide n rs → Wide n (g ++ rs)
-unfolding Wide
-wide-append n [] rs v w = w
-wide-append n (r ∷ g) rs v w = (v .0, wide-append n g rs (v .1) w)
-
+-- ---- rules of n components
 pub wide-flatten : (n : ℕ) (gs : List (List Rule)) → Grouped n gs → Wide n (flatten gs)
 unfolding Wide Grouped flatten
 wide-flatten n [] k = tt
 wide-flatten n (g ∷ gs) k = wide-append n g (flatten gs) (k .1) (wide-flatten n gs (k .2))
-
-pub flat-rules : (n : ℕ) (cs ls : List ℕ) → length cs ≡ length ls * n → flat (rules n cs ls) ≡ cs
-unfolding rules
-flat-rules n [] [] e = refl
-flat-rules n (c ∷ cs) [] e = absurd (omega (arith, zero-mul n))
-flat-rules n cs (l ∷ ls) e =
-    ap (λ (v : List ℕ). take n cs ++ v) (flat-rules n (drop n cs) ls (simp length-drop (omega arith))) ∙ take-append-drop n cs
-
-pub ligatures-rules : (n : ℕ) (cs ls : List ℕ) → ligaturesOf (rules n cs ls) ≡ ls
-unfolding rules
-ligatures-rules n cs [] = refl
-ligatures-rules n cs (l ∷ ls) = ap (λ (v : List ℕ). l ∷ v) (ligatures-rules n (drop n cs) ls)
-
-pub rules-flat : (n : ℕ) (rs : List Rule) → Wide n rs → rules n (flat rs) (ligaturesOf rs) ≡ rs
-unfolding Wide rules
-rules-flat n [] w = refl
-rules-flat n (r ∷ rs) w =
-    rw (take-at (r .components) (flat rs) n (w .0), drop-at (r .components) (flat rs) n (w .0)) (ap (λ (v : List Rule). r ∷ v) (rules-flat n rs (w .1)))
-
-pub length-flat : (n : ℕ) (rs : List Rule) → Wide n rs → length (flat rs) ≡ length (ligaturesOf rs) * n
-unfolding Wide
-length-flat n [] w = sym (zero-mul n)
-length-flat n (r ∷ rs) w = simp length-append (omega (arith, w .0, length-flat n rs (w .1)))

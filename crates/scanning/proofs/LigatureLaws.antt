@@ -11,15 +11,16 @@ use lib.ListN.{length, getD, length-map}
 use Rattle.refusals.specs.Columns.{rising}
 use Rattle.layouts.specs.declared.Kind.the-variants.{Ligature}
 use Rattle.layouts.specs.Tables.{Rule, first, leader, sets, offsets, joined, ruleWords, setWords, ligatureOf, ligature}
-use Rattle.layouts.specs.Lookups.{Lookup, lookupOf, rules, fits}
+use Rattle.layouts.specs.Lookups.{Lookup, lookupOf, rules, flat, ligatures as ligaturesOf, fits}
 use Rattle.layouts.proofs.FitLaws.{fits-parts, fits-head}
 use Rattle.layouts.proofs.SetLaws.{wide-rules, Grouped, grouped, set-size, set-fits}
+use Rattle.layouts.proofs.FlatLaws.{length-flat, rules-flat, flat-rules, ligatures-rules}
 use Rattle.layouts.proofs.SizeLaws.{length-offsets}
 use Rattle.scanning.specs.Scans.{Rest, fine, any, exactly, end}
-use Rattle.scanning.specs.Grammar.{headed, counted, covered, setSize, mostRules, mostSets, isSize, starts, flat, ligaturesOf, ligatureScan}
+use Rattle.scanning.specs.Grammar.{headed, counted, covered, setSize, mostRules, mostSets, isSize, starts, ligatureScan}
 use Rattle.scanning.proofs.TakeLaws.{Takes, two-takes, behind-takes, passed, ends, ended}
 use Rattle.scanning.proofs.HeadLaws.{headed-takes, counted-takes, covered-takes}
-use Rattle.scanning.proofs.GroupLaws.{Led, led-sets, flatten-sets, sets-flatten, leaders-rise, firsts-rise, wide-flatten, flat-rules, ligatures-rules, rules-flat, length-flat}
+use Rattle.scanning.proofs.GroupLaws.{Led, led-sets, flatten-sets, sets-flatten, leaders-rise, firsts-rise, wide-flatten}
 use Rattle.scanning.proofs.SizeLaws.{in-most-rules, in-most-sets, size-on}
 use Rattle.scanning.proofs.PlaceLaws.{spaced, Spaced, spaced-apart, starts-takes, grouping, settled-grouping, Sound, Placed, grouping-takes}
 
@@ -182,7 +183,7 @@ module _ (n : ℕ) where
         let same = rules-flat n (flatten groups) w in
         record {
           kind = refl;
-          even = length-flat n (flatten groups) w;
+          even = length-flat n (flatten groups) w ∙ ap (λ (k : ℕ). k * n) (sym (length-map (flatten groups) _));
           up = rw same (firsts-rise groups (m .1) up);
           made = rw (same, sets-flatten groups (m .1) up) e;
         }

@@ -2,14 +2,14 @@
 -- `mostSingle`, `mostRules`, `mostSets` the limits that the 16 bits of an offset set; `reading` what bytes say.
 -- Assumes nothing.
 use mathlib.Core.Bool.{Bool, cond, _&&_}
-use mathlib.Core.List.{List, [], _∷_, _++_, map}
+use mathlib.Core.List.{List, [], _∷_, _++_}
 use Prim.Native.Nat.{ℕ, zero, suc, _+_, _-_, _*_, _/_, _%_}
 use lib.Dec.{eqb, leb, ltb}
 use lib.ListN.{length}
 use Rattle.words.specs.Words.{wordsAt}
 use Rattle.layouts.specs.declared.Kind.the-variants.{Single, Ligature}
 use Rattle.layouts.specs.Tables.{Rule, evenly}
-use Rattle.layouts.specs.Lookups.{lookupOf}
+use Rattle.layouts.specs.Lookups.{lookupOf, flat, ligatures}
 use Rattle.scanning.specs.Scans.{Scan, Rest, fine, wrong, short, next, any, exactly, several, rise, end, further}
 
 -- Lookup: a type, any flags, one subtable, which begins at byte 8
@@ -83,14 +83,6 @@ settled n (lead ∷ leads) (o ∷ []) k = next (λ c. leb 1 c && leb c (mostRule
 settled n (lead ∷ leads) (o ∷ (p ∷ os)) k =
     next (λ c. eqb (o + setSize n c) p) (λ c. grouped n lead c (λ set. settled n leads (p ∷ os) (λ sets. k (set ++ sets))))
 
--- the components of rules, those of one behind those of the other
-abbrev pub flat : List Rule → List ℕ
-flat [] = []
-flat (r ∷ rules) = r .components ++ flat rules
-
-abbrev pub ligaturesOf : List Rule → List ℕ
-ligaturesOf rules = map (λ (r : Rule). r .ligature) rules
-
 unfoldable pub ligatureScan : ℕ → Rest
 ligatureScan n =
     headed 4 (λ flags.
@@ -98,7 +90,7 @@ ligatureScan n =
     starts n s (λ os.
     covered 1 s (λ leads.
     settled n leads os (λ rules.
-    end (lookupOf flags (Ligature n) (flat rules) (ligaturesOf rules))))))))
+    end (lookupOf flags (Ligature n) (flat rules) (ligatures rules))))))))
 
 -- ---- of any kind: "An empty ligature list has the same bytes for both component numbers and reads with 2"
 unfoldable pub scan : Rest

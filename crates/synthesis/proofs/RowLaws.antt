@@ -3,7 +3,7 @@
 use mathlib.Core.Path.{_≡_, refl, sym, ap, ap₂, _∙_}
 use mathlib.Core.Bool.{Bool, true, false}
 use mathlib.Core.List.{List, [], _∷_, map}
-use Prim.Native.Nat.{ℕ, zero, suc, _+_, _*_, _≤_, _<_, min}
+use Prim.Native.Nat.{ℕ, zero, suc, _+_, _*_, _≤_, _<_}
 use native.Mathlib.Omega.{arith}
 use borrow.Author.Tests.{eq-eqb, ne-eqb, lt-ltb, le-ltb}
 use lib.ListN.{length, getD, take, drop, set, length-map, length-drop, drop-of-length-le}
@@ -15,7 +15,6 @@ use Rattle.layouts.specs.declared.Kind.the-variants.{Single, Ligature}
 use Rattle.layouts.specs.Lookups.{fits}
 use Rattle.layouts.proofs.FitLaws.{fits-head, fits-at}
 use Rattle.fonts.specs.Font.{Font, glyphOf}
-use Rattle.fonts.proofs.FontLaws.{glyph-told, glyph-missing}
 use Rattle.packing.specs.Packed.{packed}
 use Rattle.packing.proofs.PackLaws.{pack-bound}
 use Rattle.synthesis.specs.Rules.{kindOf, ruled}
@@ -29,26 +28,27 @@ module _ (f : Font) (code form : ℕ) where
   unfolding ruled
   single-zero e = rw (eq-eqb form 0 e)
 
-  module _ (h : form ≡ 0 → ⊥) {s : ℕ} (p : s ≡ min (glyphOf f form) 65536) where
-    pub single-no-form : 65535 < s → [] ≡ gives f Single (pair code form)
+  module _ (h : form ≡ 0 → ⊥) where
+    pub single-no-form : 65536 ≤ glyphOf f form → [] ≡ gives f Single (pair code form)
     unfolding ruled fits
-    single-no-form m = rw (ne-eqb form 0 h, le-ltb (glyphOf f form) 65536 (glyph-missing p m))
+    single-no-form m = rw (ne-eqb form 0 h, le-ltb (glyphOf f form) 65536 m)
 
-    module _ (l : s ≤ 65535) {g : ℕ} (q : g ≡ min (glyphOf f code) 65536) where
-      pub single-no-glyph : 65535 < g → [] ≡ gives f Single (pair code form)
+    module _ {s : ℕ} (p : (s ≡ glyphOf f form) × (glyphOf f form < 65536)) where
+      pub single-no-glyph : 65536 ≤ glyphOf f code → [] ≡ gives f Single (pair code form)
       unfolding ruled fits
-      single-no-glyph m = rw (ne-eqb form 0 h, ← glyph-told p l, lt-ltb s 65536 (omega arith), le-ltb (glyphOf f code) 65536 (glyph-missing q m))
+      single-no-glyph m = rw (ne-eqb form 0 h, lt-ltb (glyphOf f form) 65536 (p .1), le-ltb (glyphOf f code) 65536 m)
 
-      pub single-equal : g ≤ 65535 → g ≡ s → [] ≡ gives f Single (pair code form)
-      unfolding ruled fits
-      single-equal m e =
-          rw (ne-eqb form 0 h, ← glyph-told p l, ← glyph-told q m, lt-ltb s 65536 (omega arith), lt-ltb g 65536 (omega arith), eq-eqb g s e)
+      module _ {g : ℕ} (q : (g ≡ glyphOf f code) × (glyphOf f code < 65536)) where
+        pub single-equal : g ≡ s → [] ≡ gives f Single (pair code form)
+        unfolding ruled fits
+        single-equal e =
+            rw (ne-eqb form 0 h, lt-ltb (glyphOf f form) 65536 (p .1), lt-ltb (glyphOf f code) 65536 (q .1), ← p .0, ← q .0, eq-eqb g s e)
 
-      pub single-made : g ≤ 65535 → (g ≡ s → ⊥) → (s * 65536 + g) ∷ [] ≡ gives f Single (pair code form)
-      unfolding ruled fits
-      single-made m e =
-          let z : s * 65536 + g ≡ g + 65536 * s = omega arith in
-          rw (ne-eqb form 0 h, ← glyph-told p l, ← glyph-told q m, lt-ltb s 65536 (omega arith), lt-ltb g 65536 (omega arith), ne-eqb g s e, z)
+        pub single-made : (g ≡ s → ⊥) → (s * 65536 + g) ∷ [] ≡ gives f Single (pair code form)
+        unfolding ruled fits
+        single-made e =
+            let z : s * 65536 + g ≡ g + 65536 * s = omega arith in
+            rw (ne-eqb form 0 h, lt-ltb (glyphOf f form) 65536 (p .1), lt-ltb (glyphOf f code) 65536 (q .1), ← p .0, ← q .0, ne-eqb g s e, z)
 
 -- ---- a ligature row
 map-at : (h : ℕ → ℕ) (l : List ℕ) (j : ℕ) → j < length l → getD (map h l) j 0 ≡ h (getD l j 0)
@@ -82,52 +82,51 @@ module _ (f : Font) (n : ℕ) (cs : List ℕ) (at : ℕ) (room : at + n ≤ leng
       record { within = omega arith; fit = rw none; made = rw none }
 
   module _ {target k x : ℕ} (p : Packing f n cs at target k x) where
-    pub packing-fits : target ≤ 65535 → n ≤ 3 → x < 18446744073709551616
+    pub packing-fits : target < 65536 → n ≤ 3 → x < 18446744073709551616
     unfolding fits
     packing-fits l h =
         rw (p .made)
-        (pack-bound (drop k (glyphsAt f n cs at)) target (rw (lt-ltb target 65536 (omega arith)) (p .fit))
+        (pack-bound (drop k (glyphsAt f n cs at)) target (rw (lt-ltb target 65536 l) (p .fit))
         (simp length-drop (omega (arith, length-glyphs))))
 
-    module _ (j : ℕ) (e : k ≡ j + 1) {g : ℕ} (q : g ≡ min (glyphOf f (getD cs (at + j) 0)) 65536) where
-      pub packing-next : g ≤ 65535 → Packing f n cs at target j (x * 65536 + g)
+    module _ (j : ℕ) (e : k ≡ j + 1) where
+      pub packing-next : {g : ℕ} → (g ≡ glyphOf f (getD cs (at + j) 0)) × (glyphOf f (getD cs (at + j) 0) < 65536) → Packing f n cs at target j (x * 65536 + g)
       unfolding fits
-      packing-next h =
+      packing-next {g} q =
           let G : List ℕ = glyphsAt f n cs at in
           let there : j < n = omega (arith, p .within) in
-          let here : getD G j 0 ≡ g = glyph-of j there ∙ sym (glyph-told q h) in
+          let here : getD G j 0 ≡ g = glyph-of j there ∙ sym (q .0) in
           let next : drop j G ≡ g ∷ drop k G = drop-next G j 0 (omega (arith, length-glyphs)) ∙ ap₂ (λ (y : ℕ) (i : ℕ). y ∷ drop i G) here (sym e) in
           record {
             within = omega arith;
-            fit = rw (next, lt-ltb g 65536 (omega arith)) (p .fit);
+            fit = rw (next, lt-ltb g 65536 (omega (arith, q .0, q .1))) (p .fit);
             made = rw next (omega (arith, p .made));
           }
 
       -- a component that has no glyph
-      pub packing-stops : (ligature : ℕ) → 65535 < g → [] ≡ gives f (Ligature n) (rowOf n cs at ligature)
+      pub packing-stops : (ligature : ℕ) → 65536 ≤ glyphOf f (getD cs (at + j) 0) → [] ≡ gives f (Ligature n) (rowOf n cs at ligature)
       unfolding ruled
       packing-stops ligature h =
           let G : List ℕ = glyphsAt f n cs at in
           let there : j < n = omega (arith, p .within) in
-          go (fits (glyphOf f ligature ∷ G)) refl (omega (arith, glyph-of j there, glyph-missing q h))
+          go (fits (glyphOf f ligature ∷ G)) refl (omega (arith, glyph-of j there, h))
         where
           go : (t : Bool) → fits (glyphOf f ligature ∷ glyphsAt f n cs at) ≡ t → 65536 ≤ getD (glyphsAt f n cs at) j 0 → [] ≡ gives f (Ligature n) (rowOf n cs at ligature)
           go true u m = absurd (omega (arith, fits-at (glyphsAt f n cs at) (fits-head (glyphOf f ligature) (glyphsAt f n cs at) u .1) j))
           go false u m = rw u
 
-    pub packing-ends : (ligature : ℕ) → k ≤ 0 → target ≡ min (glyphOf f ligature) 65536 → target ≤ 65535 → x ∷ [] ≡ gives f (Ligature n) (rowOf n cs at ligature)
+    pub packing-ends : (ligature : ℕ) → k ≤ 0 → (target ≡ glyphOf f ligature) × (glyphOf f ligature < 65536) → x ∷ [] ≡ gives f (Ligature n) (rowOf n cs at ligature)
     unfolding ruled fits
-    packing-ends ligature z q h =
+    packing-ends ligature z q =
         let e : k ≡ 0 = omega arith in
-        let t : target ≡ glyphOf f ligature = glyph-told q h in
         let whole : fits (glyphsAt f n cs at) ≡ true = rw e at (p .fit) in
         let made : x ≡ packed (glyphsAt f n cs at) target = rw e at (p .made) in
-        rw (← t, lt-ltb target 65536 (omega arith), whole, made)
+        rw (lt-ltb (glyphOf f ligature) 65536 (q .1), whole, made, q .0)
 
 -- the ligature has no glyph
-pub ligature-missing : (f : Font) (n : ℕ) (cs : List ℕ) (at ligature : ℕ) {s : ℕ} → s ≡ min (glyphOf f ligature) 65536 → 65535 < s → [] ≡ gives f (Ligature n) (rowOf n cs at ligature)
+pub ligature-missing : (f : Font) (n : ℕ) (cs : List ℕ) (at ligature : ℕ) → 65536 ≤ glyphOf f ligature → [] ≡ gives f (Ligature n) (rowOf n cs at ligature)
 unfolding ruled fits
-ligature-missing f n cs at ligature p m = rw (le-ltb (glyphOf f ligature) 65536 (glyph-missing p m))
+ligature-missing f n cs at ligature m = rw (le-ltb (glyphOf f ligature) 65536 m)
 
 -- ---- a row of either kind
 module _ (f : Font) (n : ℕ) (cs : List ℕ) (at ligature : ℕ) {v : List ℕ} where

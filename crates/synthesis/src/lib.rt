@@ -7,6 +7,7 @@ ghost use Rattle.layouts.specs.declared.Kind.the-variants.{Single, Ligature};
 ghost use Rattle.fonts.specs.Font.{fontOf, Sound, Span};
 ghost use Rattle.synthesis.specs.Rules.{rows, ruled, kindOf};
 ghost use Rattle.synthesis.specs.Made.{packedIn, rowOf, gives, pair, Collected};
+use fonts::Found;
 use letters::Code;
 
 // What a row gives: a rule as one number, or none.
@@ -23,18 +24,17 @@ fn single_rule(codes: &[u32], glyphs: &[u32], span: usize, code: u16, form: u16)
     if form == 0 {
         return Row::Dropped;
     }
-    let target = fonts::glyph_for_codepoint(codes, glyphs, span, Code(form as u32)).0;
-    if 65535 < target {
+    let Found::At(target) = fonts::glyph_for_codepoint(codes, glyphs, span, Code(form as u32))
+    else {
+        return Row::Dropped;
+    };
+    let Found::At(glyph) = fonts::glyph_for_codepoint(codes, glyphs, span, Code(code as u32)) else {
+        return Row::Dropped;
+    };
+    if glyph.0 == target.0 {
         return Row::Dropped;
     }
-    let glyph = fonts::glyph_for_codepoint(codes, glyphs, span, Code(code as u32)).0;
-    if 65535 < glyph {
-        return Row::Dropped;
-    }
-    if glyph == target {
-        return Row::Dropped;
-    }
-    Row::Rule(target as u64 * 65536 + glyph as u64)
+    Row::Rule(target.0 as u64 * 65536 + glyph.0 as u64)
 }
 
 // The rule of a row whose components begin at place `at`: the last component is packed first, so that the first is in the lowest bits.
@@ -50,24 +50,23 @@ fn ligature_rule(
     requires { ⌜ Sound (fontOf (now codes) (now glyphs)) × Span (length (now codes)) span × (n ≤ 3) × (at + n ≤ length (now components)) ⌝ }
     ensures { λ r. ⌜ packedIn r ≡ gives (fontOf (now (codes .entry)) (now (glyphs .entry))) (Ligature n) (rowOf n (now (components .entry)) at ligature) ⌝ }
 {
-    let whole = fonts::glyph_for_codepoint(codes, glyphs, span, Code(ligature as u32)).0;
-    if 65535 < whole {
+    let Found::At(whole) = fonts::glyph_for_codepoint(codes, glyphs, span, Code(ligature as u32))
+    else {
         return Row::Dropped;
-    }
-    let mut x = whole as u64;
+    };
+    let mut x = whole.0 as u64;
     let mut k = n;
     while 0 < k {
         k -= 1;
-        let part = fonts::glyph_for_codepoint(
+        let Found::At(part) = fonts::glyph_for_codepoint(
             codes,
             glyphs,
             span,
             Code(components[at + k] as u32),
-        ).0;
-        if 65535 < part {
+        ) else {
             return Row::Dropped;
-        }
-        x = x * 65536 + part as u64;
+        };
+        x = x * 65536 + part.0 as u64;
     }
     Row::Rule(x)
 }

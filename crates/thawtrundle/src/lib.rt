@@ -3,8 +3,9 @@
 // A wrapper does nothing but hand on. It takes a yes-or-no as a byte, 0 for no, since C may hand over any; it gives the number of refusal, 0 for
 // an accepted call, and all else that is answered through numbers lent for that, zeros with a refusal. Its statement is the call's own equation.
 ghost use mathlib.Core.Path.{_≡_};
+ghost use Rattle.refusals.specs.Columns.{yes};
 ghost use Rattle.refusals.specs.Left.{After};
-ghost use Rattle.recording.specs.Recorded.{yes, recordAfter};
+ghost use Rattle.recording.specs.Recorded.{recordAfter};
 ghost use Rattle.recording.specs.Recorded.{requestOf as recordingOf, outcome as recordedAs};
 ghost use Rattle.lines.specs.Held.{settingOf, lineOf};
 ghost use Rattle.lines.specs.Joined.{joinAfter};

@@ -1,8 +1,10 @@
 -- `filling::fill_rule` meets its contract.
 -- Assumes nothing.
 use native.Mathlib.Omega.{arith}
-use lib.ListN.{length-set}
-use Rattle.filling.proofs.FillLaws.{pair-filled, triple-filled}
+use mathlib.Core.Path.{_≡_, _∙_}
+use Prim.Native.Nat.{_+_}
+use lib.ListN.{set, length-set}
+use Rattle.filling.proofs.FillLaws.{filled, lead-filled, word-filled, rule-filled}
 use Rattle.filling.proofs.fill_rule.Statement.{statement}
 use Rattle.filling.proofs.fill_rule.Tie as tie
 
@@ -30,12 +32,22 @@ slice-write-components-2 c = simp length-set (omega (arith, c .before .before .b
 same-length : tie.Need-same-length
 same-length c = simp length-set
 
+-- the first glyph, and one word behind it
+two-filled :
+    (u : tie.After-u16-at) → let a = u .before .before .before .args in
+    set (set (a .components .now) (a .x) (a .lead)) (a .x + 1) (u .u16-at .result) ≡ filled (a .lead) (a .bytes .now) (a .at) (a .x) (a .components .now) 1
+two-filled u =
+    let s = u .before .before .before in
+    let a = s .args in
+    let begun = lead-filled (a .lead) (a .bytes .now) (a .at) (a .x) (a .components .now) (omega (arith, s .pre .0, s .pre .3)) in
+    word-filled (a .lead) (a .bytes .now) (a .at) (a .x) (a .components .now) 0 _ begun (a .x + 1) (a .at + 4) (u .u16-at .result) (omega arith) (omega arith) (u .u16-at .ensures) (omega (arith, s .pre .0, s .pre .3))
+
 returns : tie.Need-returns
 returns c =
     let u = c .before in
     let s = u .before .before .before in
     let a = s .args in
-    pair-filled (a .n) (a .lead) (a .bytes .now) (a .at) (a .x) (a .components .now) (u .u16-at .result) (u .u16-at .ensures) (c .if1 .taken) (s .pre .3)
+    two-filled u ∙ rule-filled (a .lead) (a .bytes .now) (a .at) (a .x) (a .components .now) (a .n) 1 (c .if1 .taken)
 
 add-u16-at-2 : tie.Need-add-u16-at-2
 add-u16-at-2 c = omega (arith, c .before .before .before .before .pre .0, c .before .before .before .before .pre .2, c .if1 .left)
@@ -61,7 +73,8 @@ returns-2 c =
     let u = i .before in
     let s = u .before .before .before in
     let a = s .args in
-    triple-filled (a .n) (a .lead) (a .bytes .now) (a .at) (a .x) (a .components .now) (u .u16-at .result) (u .u16-at .ensures) (omega (arith, s .pre .0, s .pre .1, i .if1 .left)) (s .pre .3) (c .u16-at2 .result) (c .u16-at2 .ensures)
+    word-filled (a .lead) (a .bytes .now) (a .at) (a .x) (a .components .now) 1 _ (two-filled u) (a .x + 2) (a .at + 6) (c .u16-at2 .result) (omega arith) (omega arith) (c .u16-at2 .ensures) (omega (arith, s .pre .0, s .pre .1, s .pre .3, i .if1 .left))
+    ∙ rule-filled (a .lead) (a .bytes .now) (a .at) (a .x) (a .components .now) (a .n) 2 (omega (arith, s .pre .0, s .pre .1, i .if1 .left))
 
 pub fill-rule-spec : {M : Type 1} → statement M
 fill-rule-spec =

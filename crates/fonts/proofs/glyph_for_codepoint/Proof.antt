@@ -13,13 +13,17 @@ enum-known-glyph : tie.Need-enum-known-glyph
 enum-known-glyph c = search needs
 
 returns : tie.Need-returns
-returns c = large-glyph (c .before .before .before .before .nominal-glyph .ensures) (c .before .before .glyph .given .1) (omega (arith, c .if1 .taken))
+returns c =
+    let g = c .before .before .before in
+    large-glyph (g .before .before .nominal-glyph .ensures) (g .glyph .given .1) (omega (arith, c .if1 .taken))
 
 enum-told : tie.Need-enum-told
 enum-told c = search needs
 
 returns-2 : tie.Need-returns-2
-returns-2 c = usable-glyph (c .before .before .before .before .nominal-glyph .ensures) (c .before .before .glyph .given .1) (omega (arith, c .if1 .left))
+returns-2 c =
+    let g = c .before .before .before in
+    usable-glyph (g .before .before .nominal-glyph .ensures) (g .glyph .given .1) (omega (arith, c .if1 .left))
 
 returns-3 : tie.Need-returns-3
 returns-3 c = no-glyph (c .before .before .nominal-glyph .ensures) (c .enum-told .given .1)

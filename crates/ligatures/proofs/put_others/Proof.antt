@@ -1,7 +1,9 @@
 -- `ligatures::put_others` meets its contract.
 -- Assumes nothing.
+use mathlib.Core.Path.{_≡_}
+use Prim.Native.Nat.{_+_}
 use native.Mathlib.Omega.{arith}
-use Rattle.ligatures.proofs.PlaceLaws.{one-written, two-written}
+use Rattle.ligatures.proofs.PlaceLaws.{other-written, others-written}
 use borrow.Author.Needs.{needs}
 use Rattle.ligatures.proofs.put_others.Statement.{statement}
 use Rattle.ligatures.proofs.put_others.Tie as tie
@@ -25,7 +27,8 @@ returns : tie.Need-returns
 returns c =
     let p = c .before .before .before in
     let s = p .before .before .before .before .before in
-    one-written (s .args .n) (s .args .components .now) (s .args .i) (s .pre .2) (c .if1 .taken) (p .put-u16 .ensures)
+    let q = p .put-u16 .ensures in
+    rw (c .if1 .taken) (other-written (s .args .components .now) (s .args .i + 1) (s .args .i + 2) 0 (omega (arith, s .pre .0, s .pre .2)) (omega arith) q (others-written q))
 
 add-put-u16-2 : tie.Need-add-put-u16-2
 add-put-u16-2 c = omega (arith, c .before .before .before .before .before .before .before .before .pre .0, c .before .before .before .before .before .before .before .before .pre .2, c .if1 .left)
@@ -52,7 +55,10 @@ returns-2 c =
     let i = q .before .before .before in
     let p = i .before .before .before in
     let s = p .before .before .before .before .before in
-    two-written (s .args .n) (s .args .components .now) (s .args .i) (s .pre .2) (omega (arith, s .pre .0, s .pre .1, i .if1 .left)) (s .pre .3) (p .put-u16 .ensures) (q .put-u162 .ensures)
+    let three : s .args .n ≡ 3 = omega (arith, s .pre .0, s .pre .1, i .if1 .left) in
+    let w = q .put-u162 .ensures in
+    let behind = other-written (s .args .components .now) (s .args .i + 2) (s .args .i + 3) 0 (omega (arith, s .pre .2, three)) (omega arith) w (others-written w) in
+    rw three (other-written (s .args .components .now) (s .args .i + 1) (s .args .i + 2) 1 (omega (arith, s .pre .2, three)) (omega arith) (p .put-u16 .ensures) behind)
 
 pub put-others-spec : {M : Type 1} → statement M
 put-others-spec =

@@ -1,11 +1,12 @@
 -- `masks::fill` meets its contract: what is filled up to a record, and the masks of the rest.
 -- Assumes nothing.
-use mathlib.Core.Path.{_≡_, sym, _∙_}
+use mathlib.Core.Path.{_≡_, sym, ap, _∙_}
 use mathlib.Core.List.{_++_}
 use Prim.Native.Nat.{_-_, _≤_}
 use borrow.Author.Needs.{needs}
-use lib.ListN.{length, take, drop, length-set}
-use Rattle.masks.specs.Masks.{masks as masksOf}
+use lib.ListN.{length, getD, take, drop, length-set}
+use Rattle.letters.specs.declared.Action.{Action}
+use Rattle.masks.specs.Masks.{mask, masks as masksOf}
 use Rattle.masks.proofs.MaskLaws.{masks-turn, masks-end}
 use Rattle.masks.proofs.fill.Statement.{statement}
 use Rattle.masks.proofs.fill.Tie as tie
@@ -26,8 +27,11 @@ mul-mask-of c = search needs
 shared-slice-read-mask-of : tie.Need-shared-slice-read-mask-of Inv-loop μ-loop
 shared-slice-read-mask-of c = search needs
 
-shared-slice-read-t12 : tie.Need-shared-slice-read-t12 Inv-loop μ-loop
-shared-slice-read-t12 c = search needs
+shared-slice-read-new : tie.Need-shared-slice-read-new Inv-loop μ-loop
+shared-slice-read-new c = search needs
+
+new-requires : tie.Need-new-requires Inv-loop μ-loop
+new-requires c κs = search needs
 
 mask-of-requires : tie.Need-mask-of-requires Inv-loop μ-loop
 mask-of-requires c κs = search needs
@@ -46,12 +50,12 @@ loop-less c = search needs
 
 loop-again : tie.Need-loop-again Inv-loop μ-loop
 loop-again c =
-    let s = c .before .before .before in
+    let s = c .before .before .before .before in
     let l = s .before .loop in
     let a = s .before .before .before .before .before .args in (
       search needs,
       simp length-set (l .inv .1),
-      l .inv .2 ∙ masks-turn (a .features .now) (a .base .now) (a .actions .now) (l .masks) (l .i) (search needs) (l .inv .1) _ (c .mask-of .ensures) (search needs),
+      l .inv .2 ∙ masks-turn (a .features .now) (a .base .now) (a .actions .now) (l .masks) (l .i) (search needs) (l .inv .1) _ (c .mask-of .ensures ∙ ap (λ (x : Action). mask (a .features .now) (getD (a .base .now) (l .i) 0) (x .0)) (c .before .new .ensures)) (search needs),
     )
 
 same-length : tie.Need-same-length Inv-loop μ-loop
@@ -72,7 +76,8 @@ fill-spec =
     loop-holds
     mul-mask-of
     shared-slice-read-mask-of
-    shared-slice-read-t12
+    shared-slice-read-new
+    new-requires
     mask-of-requires
     mul-masks
     slice-write-masks

@@ -8,7 +8,7 @@ use borrow.Author.Tests.{ltb-false}
 use lib.Dec.{ltb}
 use lib.ListN.{length}
 use Rattle.laws.proofs.TestLaws.{neither}
-use Rattle.scanning.specs.Grammar.{flat}
+use Rattle.layouts.specs.Lookups.{flat}
 use Rattle.recognizing.specs.Recognized.{countAt, rulesIn, endOf}
 use Rattle.reading.proofs.ReadLaws.{ligature-place, rules-count, parts-count, ligature-room, ligature-read}
 use borrow.Author.Needs.{needs}

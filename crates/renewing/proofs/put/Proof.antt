@@ -30,6 +30,9 @@ loop-holds c =
       sym (span-begins (a .k) _ (a .masks .now)),
     )
 
+number-requires : tie.Need-number-requires Inv-loop μ-loop
+number-requires c κs = search needs
+
 slice-write-actions : tie.Need-slice-write-actions Inv-loop μ-loop
 slice-write-actions c = search needs
 
@@ -56,13 +59,14 @@ loop-less c = search needs
 
 loop-again : tie.Need-loop-again Inv-loop μ-loop
 loop-again c =
-    let l = c .before .before .before .loop in
-    let a = c .before .before .before .before .before .before .before .args in (
+    let w = c .before .before in
+    let l = w .before .before .loop in
+    let a = w .before .before .before .before .before .before .args in (
       search needs,
       search needs,
       simp length-set (l .inv .2),
       simp length-set (l .inv .3),
-      span-next (a .k) _ (a .actions .now) (l .i) _ (l .actions) (l .inv .0) (search needs) refl (l .inv .4),
+      span-next (a .k) _ (a .actions .now) (l .i) _ (l .actions) (l .inv .0) (search needs) (w .number .ensures) (l .inv .4),
       span-next (a .k) _ (a .masks .now) (l .i) _ (l .masks) (l .inv .0) (search needs) (c .mask-of .ensures) (l .inv .5),
     )
 
@@ -86,6 +90,7 @@ put-spec =
     Inv-loop
     μ-loop
     loop-holds
+    number-requires
     slice-write-actions
     mul-mask-of
     shared-slice-read-mask-of

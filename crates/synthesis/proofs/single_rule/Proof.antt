@@ -1,7 +1,7 @@
 -- `synthesis::single_rule` meets its contract.
 -- Assumes nothing.
-use native.Mathlib.Omega.{arith}
 use Rattle.fonts.specs.Font.{fontOf}
+use Rattle.fonts.proofs.FontLaws.{glyph-told, glyph-missing}
 use Rattle.synthesis.proofs.RowLaws.{single-zero, single-no-form, single-no-glyph, single-equal, single-made}
 use borrow.Author.Needs.{needs}
 use Rattle.synthesis.proofs.single_rule.Statement.{statement}
@@ -15,56 +15,69 @@ returns c =
 glyph-for-codepoint-requires : tie.Need-glyph-for-codepoint-requires
 glyph-for-codepoint-requires c κs = search needs
 
+enum-known-target : tie.Need-enum-known-target
+enum-known-target c = search needs
+
+enum-told : tie.Need-enum-told
+enum-told c = search needs
+
 returns-2 : tie.Need-returns-2
 returns-2 c =
-    let g = c .before in
+    let g = c .before .before in
     let e = g .before in
     let a = e .before .before .before .args in
-    single-no-form (fontOf (a .codes .now) (a .glyphs .now)) (a .code) (a .form) (e .if1 .left) (g .glyph-for-codepoint .ensures) (omega (arith, c .if2 .taken))
+    single-no-form (fontOf (a .codes .now) (a .glyphs .now)) (a .code) (a .form) (e .if1 .left) (glyph-missing (g .glyph-for-codepoint .ensures) (c .enum-told .given .1))
 
 glyph-for-codepoint-requires-2 : tie.Need-glyph-for-codepoint-requires-2
 glyph-for-codepoint-requires-2 c κs = search needs
 
+enum-known-glyph : tie.Need-enum-known-glyph
+enum-known-glyph c = search needs
+
+enum-told-2 : tie.Need-enum-told-2
+enum-told-2 c = search needs
+
 returns-3 : tie.Need-returns-3
 returns-3 c =
-    let d = c .before in
-    let l = d .before in
-    let g = l .before in
+    let d = c .before .before in
+    let t = d .before .before in
+    let g = t .before .before in
     let e = g .before in
     let a = e .before .before .before .args in
-    single-no-glyph (fontOf (a .codes .now) (a .glyphs .now)) (a .code) (a .form) (e .if1 .left) (g .glyph-for-codepoint .ensures) (omega (arith, l .if2 .left)) (d .glyph-for-codepoint2 .ensures) (omega (arith, c .if3 .taken))
+    single-no-glyph (fontOf (a .codes .now) (a .glyphs .now)) (a .code) (a .form) (e .if1 .left) (glyph-told (g .glyph-for-codepoint .ensures) (t .target .given .1)) (glyph-missing (d .glyph-for-codepoint2 .ensures) (c .enum-told2 .given .1))
 
 returns-4 : tie.Need-returns-4
 returns-4 c =
-    let m = c .before in
-    let d = m .before in
-    let l = d .before in
-    let g = l .before in
+    let y = c .before .before .before .before in
+    let d = y .before .before in
+    let t = d .before .before in
+    let g = t .before .before in
     let e = g .before in
     let a = e .before .before .before .args in
-    single-equal (fontOf (a .codes .now) (a .glyphs .now)) (a .code) (a .form) (e .if1 .left) (g .glyph-for-codepoint .ensures) (omega (arith, l .if2 .left)) (d .glyph-for-codepoint2 .ensures) (omega (arith, m .if3 .left)) (c .if4 .taken)
+    single-equal (fontOf (a .codes .now) (a .glyphs .now)) (a .code) (a .form) (e .if1 .left) (glyph-told (g .glyph-for-codepoint .ensures) (t .target .given .1)) (glyph-told (d .glyph-for-codepoint2 .ensures) (y .glyph .given .1)) (c .if2 .taken)
 
-cast-t12 : tie.Need-cast-t12
-cast-t12 c = search needs
+cast-t13 : tie.Need-cast-t13
+cast-t13 c = search needs
 
-mul-t13 : tie.Need-mul-t13
-mul-t13 c = search needs
+mul-t14 : tie.Need-mul-t14
+mul-t14 c = search needs
 
-cast-t14 : tie.Need-cast-t14
-cast-t14 c = search needs
+cast-t15 : tie.Need-cast-t15
+cast-t15 c = search needs
 
-add-t15 : tie.Need-add-t15
-add-t15 c = search needs
+add-t16 : tie.Need-add-t16
+add-t16 c = search needs
 
 returns-5 : tie.Need-returns-5
 returns-5 c =
-    let m = c .before in
-    let d = m .before in
-    let l = d .before in
-    let g = l .before in
+    let m = c .before .before in
+    let y = m .before .before .before .before in
+    let d = y .before .before in
+    let t = d .before .before in
+    let g = t .before .before in
     let e = g .before in
     let a = e .before .before .before .args in
-    single-made (fontOf (a .codes .now) (a .glyphs .now)) (a .code) (a .form) (e .if1 .left) (g .glyph-for-codepoint .ensures) (omega (arith, l .if2 .left)) (d .glyph-for-codepoint2 .ensures) (omega (arith, m .if3 .left)) (c .if4 .left)
+    single-made (fontOf (a .codes .now) (a .glyphs .now)) (a .code) (a .form) (e .if1 .left) (glyph-told (g .glyph-for-codepoint .ensures) (t .target .given .1)) (glyph-told (d .glyph-for-codepoint2 .ensures) (y .glyph .given .1)) (m .if2 .left)
 
 pub single-rule-spec : {M : Type 1} → statement M
 single-rule-spec =
@@ -72,12 +85,16 @@ single-rule-spec =
     (tie.spec
     returns
     glyph-for-codepoint-requires
+    enum-known-target
+    enum-told
     returns-2
     glyph-for-codepoint-requires-2
+    enum-known-glyph
+    enum-told-2
     returns-3
     returns-4
-    cast-t12
-    mul-t13
-    cast-t14
-    add-t15
+    cast-t13
+    mul-t14
+    cast-t15
+    add-t16
     returns-5)

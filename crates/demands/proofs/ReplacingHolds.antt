@@ -85,9 +85,10 @@ named-alike s q l r m e z j =
     let long = length-changed f q l in
     let even : length (l .codes) ≡ length old = a .line .codes ∙ sym (length-letters s q l a) in
     let inside : q .place < length old = omega (arith, length-letters s q l a, a .inside) in
-    rw (left s q l r m e z)
-    (named-own (s .mongolian) (l .codes) (new .codes) old (typesOf (new .letters)) (q .place) even long inside (types-elsewhere f q l) (marks-elsewhere f q l),
-    named-own (s .mongolian) (new .codes) (l .codes) (typesOf (new .letters)) old (q .place) (length-set (l .codes) (q .place) (q .code) ∙ even ∙ sym long) (sym long) (omega (arith, long, inside)) (λ i d. sym (types-elsewhere f q l i d)) (λ i d. sym (marks-elsewhere f q l i d)))
+    rw (left s q l r m e z) (
+      named-own (s .mongolian) (l .codes) (new .codes) old (typesOf (new .letters)) (q .place) even long inside (types-elsewhere f q l) (marks-elsewhere f q l),
+      named-own (s .mongolian) (new .codes) (l .codes) (typesOf (new .letters)) old (q .place) (length-set (l .codes) (q .place) (q .code) ∙ even ∙ sym long) (sym long) (omega (arith, long, inside)) (λ i d. sym (types-elsewhere f q l i d)) (λ i d. sym (marks-elsewhere f q l i d)),
+    )
 
 pub alters-near : AltersNear
 alters-near s q l r m e z j =

@@ -1,6 +1,6 @@
 -- The rules that bytes hold: how many they are, and their components (`length-rule`, `length-rules`, `length-parts`); the sets' rules, by the next set (`sets-next`), how many they are by where they end (`end-is`), and how many their components are (`flat-sets`).
 -- Assumes nothing.
-use mathlib.Core.Path.{_≡_, refl, sym, ap, _∙_}
+use mathlib.Core.Path.{_≡_, refl, ap, _∙_}
 use mathlib.Core.List.{List, [], _∷_, _++_}
 use Prim.Native.Nat.{ℕ, zero, suc, _+_, _-_, _*_, _<_}
 use native.Mathlib.Nat.{zero-mul}

@@ -1,7 +1,7 @@
 -- Of rules that are one number: such a number is the rule again (`unpacked-pack`), has 64 bits (`pack-bound`), and its lowest 16 bits are the first component (`low-pack`).
 -- What a number is unpacked to are rules of n components (`length-digits`, `wide-unpacked`).
 -- Assumes nothing.
-use mathlib.Core.Path.{_≡_, refl, sym, ap, ap₂, _∙_}
+use mathlib.Core.Path.{_≡_, refl, ap, ap₂, _∙_}
 use mathlib.Core.Bool.{true}
 use mathlib.Core.List.{List, [], _∷_, map}
 use Prim.Native.Nat.{ℕ, zero, suc, _+_, _*_, _/_, _%_, _≤_, _<_}

@@ -24,7 +24,7 @@ use Rattle.fonts.proofs.FontLaws.{rising-lt, glyph-at}
 use Rattle.ordering.specs.Order.{insert, sorted}
 use Rattle.ordering.proofs.KeyLaws.{Each, each-at}
 use Rattle.ordering.proofs.OrderLaws.{each-sorted, sorted-map}
-use Rattle.packing.proofs.PackLaws.{length-flat}
+use Rattle.layouts.proofs.FlatLaws.{length-flat}
 use Rattle.synthesis.specs.Rules.{rows, asks, withGlyphs, usable, alters, ruled, inOrder}
 use Rattle.synthesis.specs.Made.{rowOf}
 use Rattle.synthesis.proofs.RuledLaws.{ruled-cons}

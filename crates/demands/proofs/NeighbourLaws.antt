@@ -41,11 +41,18 @@ or-false : (b : Bool) → (b || false) ≡ b
 or-false true = refl
 or-false false = refl
 
+-- a list of three numbers, and of four, has a number that is one of them
+member-three : (a b c x : ℕ) → member x (a ∷ b ∷ c ∷ []) ≡ (eqb x a || (eqb x b || eqb x c))
+member-three a b c x = rw (eqb-turned a x, eqb-turned b x, eqb-turned c x, or-false (eqb x c))
+
+member-four : (a b c d x : ℕ) → member x (a ∷ b ∷ c ∷ d ∷ []) ≡ (eqb x a || (eqb x b || (eqb x c || eqb x d)))
+member-four a b c d x = ap (λ (t : Bool). t || member x (b ∷ c ∷ d ∷ [])) (eqb-turned a x) ∙ ap (λ (t : Bool). eqb x a || t) (member-three b c d x)
+
 member-transparent : (c : ℕ) → member c (Mn ∷ Me ∷ Cf ∷ []) ≡ transparent c
-member-transparent c = rw (eqb-turned Mn c, eqb-turned Me c, eqb-turned Cf c, or-false (eqb c Cf))
+member-transparent c = member-three Mn Me Cf c
 
 pub member-selector : (c : ℕ) → member c selectors ≡ selector c
-member-selector c = rw (eqb-turned 0x180B c, eqb-turned 0x180C c, eqb-turned 0x180D c, eqb-turned 0x180F c, or-false (eqb c 0x180F))
+member-selector c = member-four 0x180B 0x180C 0x180D 0x180F c
 
 in-the-end : (t c : ℕ) → inTheEnd t c ≡ resolved t c
 in-the-end t c = ap (λ (b : Bool). cond (eqb t X) (cond b T U) t) (member-transparent c)

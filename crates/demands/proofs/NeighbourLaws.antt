@@ -41,18 +41,19 @@ or-false : (b : Bool) → (b || false) ≡ b
 or-false true = refl
 or-false false = refl
 
--- a list of three numbers, and of four, has a number that is one of them
-member-three : (a b c x : ℕ) → member x (a ∷ b ∷ c ∷ []) ≡ (eqb x a || (eqb x b || eqb x c))
-member-three a b c x = rw (eqb-turned a x, eqb-turned b x, eqb-turned c x, or-false (eqb x c))
+-- a list that has a number, written out as tests: its last number, and one more before a list
+member-last : (a x : ℕ) → member x (a ∷ []) ≡ eqb x a
+member-last a x = or-false (eqb a x) ∙ eqb-turned a x
 
-member-four : (a b c d x : ℕ) → member x (a ∷ b ∷ c ∷ d ∷ []) ≡ (eqb x a || (eqb x b || (eqb x c || eqb x d)))
-member-four a b c d x = ap (λ (t : Bool). t || member x (b ∷ c ∷ d ∷ [])) (eqb-turned a x) ∙ ap (λ (t : Bool). eqb x a || t) (member-three b c d x)
+member-more : (a x : ℕ) (l : List ℕ) {t : Bool} → member x l ≡ t → member x (a ∷ l) ≡ (eqb x a || t)
+member-more a x l e = rw (eqb-turned a x, e)
 
 member-transparent : (c : ℕ) → member c (Mn ∷ Me ∷ Cf ∷ []) ≡ transparent c
-member-transparent c = member-three Mn Me Cf c
+member-transparent c = member-more Mn c (Me ∷ Cf ∷ []) (member-more Me c (Cf ∷ []) (member-last Cf c))
 
 pub member-selector : (c : ℕ) → member c selectors ≡ selector c
-member-selector c = member-four 0x180B 0x180C 0x180D 0x180F c
+member-selector c =
+    member-more 0x180B c (0x180C ∷ 0x180D ∷ 0x180F ∷ []) (member-more 0x180C c (0x180D ∷ 0x180F ∷ []) (member-more 0x180D c (0x180F ∷ []) (member-last 0x180F c)))
 
 in-the-end : (t c : ℕ) → inTheEnd t c ≡ resolved t c
 in-the-end t c = ap (λ (b : Bool). cond (eqb t X) (cond b T U) t) (member-transparent c)

@@ -19,7 +19,8 @@ use Rattle.selectors.proofs.SelectorLaws.{length-settled}
 use Rattle.masks.specs.Masks.{masks}
 use Rattle.masks.proofs.MaskLaws.{length-masks}
 use Rattle.joining.specs.Joinable.{Joinable}
-use Rattle.lines.specs.Held.{Letters, Setting, Frame, Line}
+use Rattle.lines.specs.declared.Frame.{Frame}
+use Rattle.lines.specs.Held.{Letters, Setting, Line}
 use Rattle.lines.specs.Joined.{typesOf, frameOf, freshActions, joinedLine, sized, evenLetters, evenLine, knownLetters, uneven, tooLong, strange, refusal}
 
 sized-length : (n : ℕ) (column : List ℕ) → sized n column ≡ true → length column ≡ n

@@ -18,7 +18,8 @@ use Rattle.letters.specs.Categories.{Zs}
 use Rattle.shapes.specs.Joining.{form, nearest, eachBetween, lineTypes}
 use Rattle.selectors.specs.Selectors.{settled}
 use Rattle.masks.specs.Masks.{masks}
-use Rattle.lines.specs.Held.{Letters, Setting, Frame, Line, frameBy}
+use Rattle.lines.specs.declared.Frame.{Frame}
+use Rattle.lines.specs.Held.{Letters, Setting, Line, frameBy}
 
 -- the types that letters have in the end
 abbrev pub typesOf : Letters → List ℕ

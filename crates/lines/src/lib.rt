@@ -5,7 +5,7 @@ ghost use lib.ListN.{length};
 ghost use Rattle.laws.specs.Rows.{first};
 ghost use Rattle.refusals.specs.Numbers.{said};
 ghost use Rattle.selectors.specs.Selectors.{settled};
-ghost use Rattle.lines.specs.Held.{lettersOf, settingOf, lineOf};
+ghost use Rattle.lines.specs.Held.{lettersNow, settingNow, lineNow, settingLent, lineLent};
 ghost use Rattle.lines.specs.Joined.{evenLine, knownLetters, refusalRows, refusal, joinedLine, Joining};
 use letters::Category;
 use letters::JoiningType;
@@ -15,9 +15,23 @@ use refusals::Verdict;
 // Letters of a context, at most.
 const CONTEXT_LIMIT: usize = 64;
 
+// How a line is joined, apart from its letters: the seven feature masks, and whether it is Mongolian.
+pub struct Manner {
+    pub features: [u32; 7],
+    pub mongolian: bool,
+}
+
+// What a setting comes to: the types of the letters next to a line on both sides, the seven feature masks, whether it is Mongolian.
+pub struct Frame {
+    pub before: u8,
+    pub behind: u8,
+    pub features: [u32; 7],
+    pub mongolian: bool,
+}
+
 // Each type is one of the eight, each category one of the thirty.
 fn known_letters(types: &[u8], categories: &[u8]) -> bool
-    ensures { λ r. ⌜ r ≡ knownLetters (lettersOf (now (types .entry)) (now (categories .entry))) ⌝ }
+    ensures { λ r. ⌜ r ≡ knownLetters (lettersNow (types .entry) (categories .entry)) ⌝ }
 {
     refusals::within(types, JoiningType::X.0) & refusals::within(categories, Category::ZS.0)
 }
@@ -31,7 +45,9 @@ pub fn even_line(
     actions: &[u8],
     masks: &[u32],
 ) -> bool
-    ensures { λ r. ⌜ r ≡ evenLine (lineOf (now (codes .entry)) (now (types .entry)) (now (categories .entry)) (now (base .entry)) (now (actions .entry)) (now (masks .entry))) ⌝ }
+    ensures { λ r.
+        let l = lineLent codes types categories base actions masks in
+        ⌜ r ≡ evenLine (l .entry) ⌝ }
 {
     let n = types.len();
     (n == categories.len())
@@ -48,7 +64,11 @@ pub fn refused(
     post_types: &[u8],
     post_categories: &[u8],
 ) -> Verdict
-    ensures { λ r. ⌜ said r ≡ first (refusalRows «line_even» (lettersOf (now (types .entry)) (now (categories .entry))) (lettersOf (now («pre_types» .entry)) (now («pre_categories» .entry))) (lettersOf (now («post_types» .entry)) (now («post_categories» .entry)))) ⌝ }
+    ensures { λ r.
+        let letters = lettersNow (types .entry) (categories .entry) in
+        let pre = lettersNow («pre_types» .entry) («pre_categories» .entry) in
+        let post = lettersNow («post_types» .entry) («post_categories» .entry) in
+        ⌜ said r ≡ first (refusalRows «line_even» letters pre post) ⌝ }
 {
     let even = line_even
         & ((pre_types.len() == pre_categories.len()) & (post_types.len() == post_categories.len()));
@@ -88,13 +108,18 @@ fn join_accepted(
     post_types: &[u8],
     post_categories: &[u8],
     base: &[u32],
-    features: [u32; 7],
-    mongolian: bool,
+    manner: Manner,
     actions: &mut [u8],
     masks: &mut [u32],
 )
-    requires { ⌜ refusal (settingOf (now «pre_types») (now «pre_categories») (now «post_types») (now «post_categories») features mongolian) (lineOf (now codes) (now types) (now categories) (now base) (now actions) (now masks)) ≡ 0 ⌝ }
-    ensures { λ _. ⌜ lineOf (now (codes .entry)) (now (types .entry)) (now (categories .entry)) (now (base .entry)) (now (actions .exit)) (now (masks .exit)) ≡ joinedLine (settingOf (now («pre_types» .entry)) (now («pre_categories» .entry)) (now («post_types» .entry)) (now («post_categories» .entry)) features mongolian) (lineOf (now (codes .entry)) (now (types .entry)) (now (categories .entry)) (now (base .entry)) (now (actions .entry)) (now (masks .entry))) ⌝ }
+    requires { ⌜ refusal
+        (settingNow «pre_types» «pre_categories» «post_types» «post_categories» manner)
+        (lineNow codes types categories base actions masks)
+        ≡ 0 ⌝ }
+    ensures { λ _.
+        let s = settingLent «pre_types» «pre_categories» «post_types» «post_categories» manner in
+        let l = lineLent codes types categories base actions masks in
+        ⌜ l .exit ≡ joinedLine s (l .entry) ⌝ }
 {
     joining::arabic_joining(
         types,
@@ -105,7 +130,8 @@ fn join_accepted(
         post_categories,
         actions,
     );
-    settle(mongolian, codes, actions);
+    settle(manner.mongolian, codes, actions);
+    let features = manner.features;
     masks::setup_masks(features, base, actions, masks);
 }
 
@@ -119,12 +145,14 @@ pub fn join_line(
     post_types: &[u8],
     post_categories: &[u8],
     base: &[u32],
-    features: [u32; 7],
-    mongolian: bool,
+    manner: Manner,
     actions: &mut [u8],
     masks: &mut [u32],
 ) -> Verdict
-    ensures { λ r. ⌜ Joining (settingOf (now («pre_types» .entry)) (now («pre_categories» .entry)) (now («post_types» .entry)) (now («post_categories» .entry)) features mongolian) (lineOf (now (codes .entry)) (now (types .entry)) (now (categories .entry)) (now (base .entry)) (now (actions .entry)) (now (masks .entry))) r (lineOf (now (codes .entry)) (now (types .entry)) (now (categories .entry)) (now (base .entry)) (now (actions .exit)) (now (masks .exit))) ⌝ }
+    ensures { λ r.
+        let s = settingLent «pre_types» «pre_categories» «post_types» «post_categories» manner in
+        let l = lineLent codes types categories base actions masks in
+        ⌜ Joining s (l .entry) r (l .exit) ⌝ }
 {
     let line_even = even_line(codes, types, categories, base, actions, masks);
     let verdict = refused(
@@ -148,8 +176,7 @@ pub fn join_line(
         post_types,
         post_categories,
         base,
-        features,
-        mongolian,
+        manner,
         actions,
         masks,
     );

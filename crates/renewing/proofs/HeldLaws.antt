@@ -15,7 +15,8 @@ use Rattle.shapes.specs.Places.{placeBefore, placeOf, placeBehind}
 use Rattle.selectors.specs.Selectors.{run}
 use Rattle.masks.specs.Masks.{mask, masks}
 use Rattle.masks.proofs.MaskLaws.{masks-at}
-use Rattle.lines.specs.Held.{Frame, Line}
+use Rattle.lines.specs.declared.Frame.{Frame}
+use Rattle.lines.specs.Held.{Line}
 use Rattle.lines.specs.Joined.{typesOf, freshActions, freshLine}
 use Rattle.lines.proofs.LineLaws.{length-fresh, formed, same-line}
 use Rattle.renewing.specs.Renewable.{Renewable}

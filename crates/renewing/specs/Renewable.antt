@@ -3,7 +3,8 @@
 use mathlib.Core.Path.{_≡_}
 use lib.ListN.{length}
 use Rattle.joining.specs.Joinable.{Joinable}
-use Rattle.lines.specs.Held.{Frame, Line}
+use Rattle.lines.specs.declared.Frame.{Frame}
+use Rattle.lines.specs.Held.{Line}
 
 -- all columns are of one length, each type is one, and there are seven feature masks
 pub record Renewable (f : Frame) (l : Line) : Type 0 where

@@ -8,7 +8,8 @@ use lib.Dec.{leb}
 use lib.ListN.{getD, drop}
 use Rattle.shapes.specs.Places.{placeBefore, placeBehind}
 use Rattle.selectors.specs.Selectors.{run}
-use Rattle.lines.specs.Held.{Frame, Line}
+use Rattle.lines.specs.declared.Frame.{Frame}
+use Rattle.lines.specs.Held.{Line}
 use Rattle.lines.specs.Joined.{typesOf, freshLine}
 
 -- record j is the one at k or, in a Mongolian line, one of "the run of selectors directly behind" it

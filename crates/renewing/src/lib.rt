@@ -9,12 +9,13 @@ ghost use Rattle.shapes.specs.Joining.{passed, latest, nearest, lineTypes};
 ghost use Rattle.selectors.specs.Selectors.{run, base as baseOf};
 ghost use Rattle.masks.specs.Masks.{mask};
 ghost use Rattle.joining.specs.Joinable.{Joinable};
-ghost use Rattle.lines.specs.Held.{frameBy, lineOf};
+ghost use Rattle.lines.specs.Held.{lineNow, lineLent};
 ghost use Rattle.lines.specs.Joined.{actionsBetween};
 ghost use Rattle.renewing.specs.Renewed.{reached, touched, renewed, renewedLine};
 ghost use Rattle.renewing.specs.Renewable.{Renewable};
 use letters::Action;
 use letters::JoiningType;
+use lines::Frame;
 
 // Where the record stands whose action the one at `k` has. In a Mongolian line a selector has that of a record before it.
 fn home(mongolian: bool, codes: &[u32], k: usize) -> usize
@@ -43,25 +44,23 @@ fn fresh_action(
     codes: &[u32],
     types: &[u8],
     categories: &[u8],
-    before: u8,
-    behind: u8,
-    mongolian: bool,
+    frame: Frame,
     k: usize,
     p: u8,
     n: u8,
 ) -> Action
     requires { ⌜ Joinable (now types) (now categories) ⌝ }
     requires { ⌜ (length (now codes) ≡ length (now types)) × (k < length (now types)) ⌝ }
-    requires { ⌜ (p ≡ latest before (take k (lineTypes (now types) (now categories)))) × (n ≡ nearest (drop (k + 1) (lineTypes (now types) (now categories))) behind) ⌝ }
-    ensures { λ r. ⌜ r .0 ≡ getD (actionsBetween mongolian (now (codes .entry)) before (lineTypes (now (types .entry)) (now (categories .entry))) behind) k 0 ⌝ }
+    requires { ⌜ (p ≡ latest (frame .before) (take k (lineTypes (now types) (now categories)))) × (n ≡ nearest (drop (k + 1) (lineTypes (now types) (now categories))) (frame .behind)) ⌝ }
+    ensures { λ r. ⌜ r .0 ≡ getD (actionsBetween (frame .mongolian) (now (codes .entry)) (frame .before) (lineTypes (now (types .entry)) (now (categories .entry))) (frame .behind)) k 0 ⌝ }
 {
-    let at = home(mongolian, codes, k);
+    let at = home(frame.mongolian, codes, k);
     let t = joining::type_at(types, categories, at);
     if at == k {
         return shapes::form_of(JoiningType(p), JoiningType(t), JoiningType(n));
     }
-    let q = neighbours::letter_before(types, categories, at, before);
-    let m = neighbours::letter_from(types, categories, at + 1, behind);
+    let q = neighbours::letter_before(types, categories, at, frame.before);
+    let m = neighbours::letter_from(types, categories, at + 1, frame.behind);
     shapes::form_of(JoiningType(q.letter), JoiningType(t), JoiningType(m.letter))
 }
 
@@ -94,26 +93,26 @@ fn renew(
     codes: &[u32],
     types: &[u8],
     categories: &[u8],
-    before: u8,
-    behind: u8,
     base: &[u32],
-    features: &[u32; 7],
-    mongolian: bool,
+    frame: Frame,
     k: usize,
     p: u8,
     n: u8,
     actions: &mut [u8],
     masks: &mut [u32],
 )
-    requires { ⌜ Renewable (frameBy before behind (now features) mongolian) (lineOf (now codes) (now types) (now categories) (now base) (now actions) (now masks)) ⌝ }
-    requires { ⌜ (k < length (now types) → p ≡ latest before (take k (lineTypes (now types) (now categories)))) ⌝ }
-    requires { ⌜ (k < length (now types) → n ≡ nearest (drop (k + 1) (lineTypes (now types) (now categories))) behind) ⌝ }
-    ensures { λ _. ⌜ lineOf (now (codes .entry)) (now (types .entry)) (now (categories .entry)) (now (base .entry)) (now (actions .exit)) (now (masks .exit)) ≡ renewedLine (frameBy before behind (now (features .entry)) mongolian) (reached mongolian (now (codes .entry)) k) (lineOf (now (codes .entry)) (now (types .entry)) (now (categories .entry)) (now (base .entry)) (now (actions .entry)) (now (masks .entry))) ⌝ }
+    requires { ⌜ Renewable frame (lineNow codes types categories base actions masks) ⌝ }
+    requires { ⌜ (k < length (now types) → p ≡ latest (frame .before) (take k (lineTypes (now types) (now categories)))) ⌝ }
+    requires { ⌜ (k < length (now types) → n ≡ nearest (drop (k + 1) (lineTypes (now types) (now categories))) (frame .behind)) ⌝ }
+    ensures { λ _.
+        let l = lineLent codes types categories base actions masks in
+        ⌜ l .exit ≡ renewedLine frame (reached (frame .mongolian) (l .entry .codes) k) (l .entry) ⌝ }
 {
     if k < types.len() {
-        let action = fresh_action(codes, types, categories, before, behind, mongolian, k, p, n);
-        let end = reach_end(mongolian, codes, k);
-        put(base, features, k, end, action, actions, masks);
+        let action = fresh_action(codes, types, categories, frame, k, p, n);
+        let end = reach_end(frame.mongolian, codes, k);
+        let features = frame.features;
+        put(base, &features, k, end, action, actions, masks);
     }
 }
 
@@ -156,24 +155,23 @@ pub fn refresh(
     codes: &[u32],
     types: &[u8],
     categories: &[u8],
-    before: u8,
-    behind: u8,
     base: &[u32],
-    features: &[u32; 7],
-    mongolian: bool,
+    frame: Frame,
     k: usize,
     actions: &mut [u8],
     masks: &mut [u32],
 )
-    requires { ⌜ Renewable (frameBy before behind (now features) mongolian) (lineOf (now codes) (now types) (now categories) (now base) (now actions) (now masks)) ⌝ }
+    requires { ⌜ Renewable frame (lineNow codes types categories base actions masks) ⌝ }
     requires { ⌜ k < length (now types) ⌝ }
-    ensures { λ _. ⌜ lineOf (now (codes .entry)) (now (types .entry)) (now (categories .entry)) (now (base .entry)) (now (actions .exit)) (now (masks .exit)) ≡ renewedLine (frameBy before behind (now (features .entry)) mongolian) (touched (frameBy before behind (now (features .entry)) mongolian) (lineOf (now (codes .entry)) (now (types .entry)) (now (categories .entry)) (now (base .entry)) (now (actions .entry)) (now (masks .entry))) k) (lineOf (now (codes .entry)) (now (types .entry)) (now (categories .entry)) (now (base .entry)) (now (actions .entry)) (now (masks .entry))) ⌝ }
+    ensures { λ _.
+        let l = lineLent codes types categories base actions masks in
+        ⌜ l .exit ≡ renewedLine frame (touched frame (l .entry) k) (l .entry) ⌝ }
 {
     let t = joining::type_at(types, categories, k);
-    let q = neighbours::letter_before(types, categories, k, before);
-    let n = neighbours::letter_from(types, categories, k + 1, behind);
-    let back = further_before(types, categories, q.place, before);
-    let ahead = further_behind(types, categories, n.place, behind);
+    let q = neighbours::letter_before(types, categories, k, frame.before);
+    let n = neighbours::letter_from(types, categories, k + 1, frame.behind);
+    let back = further_before(types, categories, q.place, frame.before);
+    let ahead = further_behind(types, categories, n.place, frame.behind);
     // past the new letter, if it is transparent, the letters beside it see each other
     let seen_back = past(q.letter, t);
     let seen_ahead = past(n.letter, t);
@@ -181,11 +179,8 @@ pub fn refresh(
         codes,
         types,
         categories,
-        before,
-        behind,
         base,
-        features,
-        mongolian,
+        frame,
         n.place,
         seen_back,
         ahead,
@@ -196,11 +191,8 @@ pub fn refresh(
         codes,
         types,
         categories,
-        before,
-        behind,
         base,
-        features,
-        mongolian,
+        frame,
         q.place,
         back,
         seen_ahead,
@@ -211,11 +203,8 @@ pub fn refresh(
         codes,
         types,
         categories,
-        before,
-        behind,
         base,
-        features,
-        mongolian,
+        frame,
         k,
         q.letter,
         n.letter,

@@ -27,7 +27,8 @@ use Rattle.selectors.specs.Selectors.{selector, run}
 use Rattle.selectors.proofs.RunLaws.{marked, Reaches, Rests, run-all, run-most, rests, settled-rests}
 use Rattle.masks.specs.Masks.{mask, masks}
 use Rattle.masks.proofs.MaskLaws.{masks-at}
-use Rattle.lines.specs.Held.{Frame, Line}
+use Rattle.lines.specs.declared.Frame.{Frame}
+use Rattle.lines.specs.Held.{Line}
 use Rattle.lines.specs.Joined.{typesOf, freshActions}
 use Rattle.lines.proofs.LineLaws.{length-fresh}
 use Rattle.renewing.specs.Renewed.{reached, touched}

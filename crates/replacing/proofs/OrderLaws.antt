@@ -12,7 +12,8 @@ use lib.ListN.{length, getD}
 use lib.Seq.{set-comm}
 use Rattle.masks.specs.Masks.{masks}
 use Rattle.refusals.specs.Left.{After}
-use Rattle.lines.specs.Held.{Setting, Frame, Line}
+use Rattle.lines.specs.declared.Frame.{Frame}
+use Rattle.lines.specs.Held.{Setting, Line}
 use Rattle.lines.specs.Joined.{typesOf, frameOf, freshActions}
 use Rattle.lines.proofs.LineLaws.{same-line}
 use Rattle.renewing.specs.Renewed.{touched, renewed}

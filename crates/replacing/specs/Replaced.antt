@@ -1,4 +1,4 @@
--- Replacing a letter of a held line (document 01, "Replacing a letter"): `Request` what is asked for; `changed` the line with the new letter; `replacedLine` that line with
+-- Replacing a letter of a held line (document 01, "Replacing a letter"): `Request`, `requestOf`, `asked` what is asked for; `changed` the line with the new letter; `replacedLine` that line with
 -- the records joined afresh that it touches; `strangeRequest`, `outside`, `replaceRows`, `replaceRefusal` when replacing is refused, and with which number;
 -- `replaceAfter`, `Replacing` what the call answers and leaves, of every input.
 -- Assumes nothing.
@@ -16,7 +16,8 @@ use Rattle.refusals.specs.Left.{Left, After, leaves}
 use Rattle.letters.specs.Types.{X}
 use Rattle.letters.specs.Categories.{Zs}
 use Rattle.letters.specs.Actions.{repeating}
-use Rattle.lines.specs.Held.{Setting, Frame, Line, lettersOf}
+use Rattle.lines.specs.declared.Frame.{Frame}
+use Rattle.lines.specs.Held.{Setting, Line, lettersOf}
 use Rattle.lines.specs.Joined.{frameOf, evenLine, uneven, tooLong, strange}
 use Rattle.renewing.specs.Renewed.{touched, renewedLine}
 
@@ -29,6 +30,10 @@ pub record Request : Type 0 where
 
 abbrev pub requestOf : ℕ → ℕ → ℕ → ℕ → Request
 requestOf place code type category = record { place = place; code = code; type = type; category = category }
+
+-- the same from the struct that is handed over
+abbrev pub asked : Rattle.replacing.specs.declared.Request.Request → Request
+asked q = requestOf (q .place) (q .code .0) (q .«joining_type» .0) (q .category .0)
 
 -- "Those three columns change at the place"
 abbrev pub changed : Request → Line → Line

@@ -4,15 +4,25 @@ ghost use mathlib.Core.Bool.{false};
 ghost use mathlib.Core.List.{[]};
 ghost use Rattle.laws.specs.Rows.{first};
 ghost use Rattle.refusals.specs.Numbers.{said};
-ghost use Rattle.lines.specs.Held.{settingOf, lineOf};
+ghost use Rattle.lines.specs.Held.{settingNow, lineNow, mannerOf, settingLent, lineLent};
 ghost use Rattle.lines.specs.Joined.{frameOf};
-ghost use Rattle.replacing.specs.Replaced.{requestOf, replacedLine, replaceRows, replaceRefusal, Replacing};
+ghost use Rattle.replacing.specs.Replaced.{asked, replacedLine, replaceRows, replaceRefusal, Replacing};
 use letters::Action;
 use letters::Category;
 use letters::Code;
 use letters::JoiningType;
+use lines::Frame;
+use lines::Manner;
 use refusals::Refusal;
 use refusals::Verdict;
+
+// What is asked for: a place, and the letter that comes to stand there.
+pub struct Request {
+    pub place: usize,
+    pub code: Code,
+    pub joining_type: JoiningType,
+    pub category: Category,
+}
 
 // Replaces a letter where it is not refused.
 fn replace_accepted(
@@ -24,40 +34,47 @@ fn replace_accepted(
     post_types: &[u8],
     post_categories: &[u8],
     base: &[u32],
-    features: [u32; 7],
-    mongolian: bool,
+    manner: Manner,
     actions: &mut [u8],
     masks: &mut [u32],
-    place: usize,
-    code: Code,
-    joining_type: JoiningType,
-    category: Category,
+    request: Request,
 )
-    requires { ⌜ replaceRefusal (settingOf (now «pre_types») (now «pre_categories») (now «post_types») (now «post_categories») features mongolian) (requestOf place (code .0) («joining_type» .0) (category .0)) (lineOf (now codes) (now types) (now categories) (now base) (now actions) (now masks)) ≡ 0 ⌝ }
-    ensures { λ _. ⌜ lineOf (now (codes .exit)) (now (types .exit)) (now (categories .exit)) (now (base .entry)) (now (actions .exit)) (now (masks .exit)) ≡ replacedLine (frameOf (settingOf (now («pre_types» .entry)) (now («pre_categories» .entry)) (now («post_types» .entry)) (now («post_categories» .entry)) features mongolian)) (requestOf place (code .0) («joining_type» .0) (category .0)) (lineOf (now (codes .entry)) (now (types .entry)) (now (categories .entry)) (now (base .entry)) (now (actions .entry)) (now (masks .entry))) ⌝ }
+    requires { ⌜ replaceRefusal
+        (settingNow «pre_types» «pre_categories» «post_types» «post_categories» manner)
+        (asked request)
+        (lineNow codes types categories base actions masks)
+        ≡ 0 ⌝ }
+    ensures { λ _.
+        let s = settingLent «pre_types» «pre_categories» «post_types» «post_categories» manner in
+        let l = lineLent codes types categories base actions masks in
+        ⌜ l .exit ≡ replacedLine (frameOf s) (asked request) (l .entry) ⌝ }
 {
-    codes[place] = code.0;
-    types[place] = joining_type.0;
-    categories[place] = category.0;
+    let place = request.place;
+    codes[place] = request.code.0;
+    types[place] = request.joining_type.0;
+    categories[place] = request.category.0;
     let before = joining::first_letter(pre_types, pre_categories);
     let behind = joining::first_letter(post_types, post_categories);
+    let features = manner.features;
     renewing::refresh(
         codes,
         types,
         categories,
-        before,
-        behind,
         base,
-        &features,
-        mongolian,
+        Frame {
+            before,
+            behind,
+            features,
+            mongolian: manner.mongolian,
+        },
         place,
         actions,
         masks,
     );
 }
 
-// The refusal of a request: old actions and the new letter are tested here, the line and its contexts as for joining. Feature masks, script
-// and code are not asked for, so the contract may name any.
+// The refusal of a request: old actions and the new letter are tested here, the line and its contexts as for joining. Feature masks and
+// script are not asked for, so the contract may name any.
 fn refused(
     codes: &[u32],
     types: &[u8],
@@ -69,11 +86,12 @@ fn refused(
     base: &[u32],
     actions: &[u8],
     masks: &[u32],
-    place: usize,
-    joining_type: JoiningType,
-    category: Category,
+    request: Request,
 ) -> Verdict
-    ensures { λ r. ⌜ said r ≡ first (replaceRows (settingOf (now («pre_types» .entry)) (now («pre_categories» .entry)) (now («post_types» .entry)) (now («post_categories» .entry)) [] false) (requestOf place 0 («joining_type» .0) (category .0)) (lineOf (now (codes .entry)) (now (types .entry)) (now (categories .entry)) (now (base .entry)) (now (actions .entry)) (now (masks .entry)))) ⌝ }
+    ensures { λ r.
+        let s = settingLent «pre_types» «pre_categories» «post_types» «post_categories» (mannerOf [] false) in
+        let l = lineLent codes types categories base actions masks in
+        ⌜ said r ≡ first (replaceRows s (asked request) (l .entry)) ⌝ }
 {
     let line_even = lines::even_line(codes, types, categories, base, actions, masks);
     let line = lines::refused(
@@ -86,9 +104,9 @@ fn refused(
         post_categories,
     );
     let known = refusals::within(actions, Action::REPEATING.0)
-        & ((joining_type.0 <= JoiningType::X.0) & (category.0 <= Category::ZS.0));
+        & ((request.joining_type.0 <= JoiningType::X.0) & (request.category.0 <= Category::ZS.0));
     let strange = refusals::unless(known, Refusal::OutOfRange);
-    let outside = refusals::unless(place < types.len(), Refusal::Place);
+    let outside = refusals::unless(request.place < types.len(), Refusal::Place);
     line.sooner(strange.sooner(outside))
 }
 
@@ -103,16 +121,15 @@ pub fn replace_letter(
     post_types: &[u8],
     post_categories: &[u8],
     base: &[u32],
-    features: [u32; 7],
-    mongolian: bool,
+    manner: Manner,
     actions: &mut [u8],
     masks: &mut [u32],
-    place: usize,
-    code: Code,
-    joining_type: JoiningType,
-    category: Category,
+    request: Request,
 ) -> Verdict
-    ensures { λ r. ⌜ Replacing (settingOf (now («pre_types» .entry)) (now («pre_categories» .entry)) (now («post_types» .entry)) (now («post_categories» .entry)) features mongolian) (requestOf place (code .0) («joining_type» .0) (category .0)) (lineOf (now (codes .entry)) (now (types .entry)) (now (categories .entry)) (now (base .entry)) (now (actions .entry)) (now (masks .entry))) r (lineOf (now (codes .exit)) (now (types .exit)) (now (categories .exit)) (now (base .entry)) (now (actions .exit)) (now (masks .exit))) ⌝ }
+    ensures { λ r.
+        let s = settingLent «pre_types» «pre_categories» «post_types» «post_categories» manner in
+        let l = lineLent codes types categories base actions masks in
+        ⌜ Replacing s (asked request) (l .entry) r (l .exit) ⌝ }
 {
     let verdict = refused(
         codes,
@@ -125,9 +142,7 @@ pub fn replace_letter(
         base,
         actions,
         masks,
-        place,
-        joining_type,
-        category,
+        request,
     );
     if verdict.number() != 0 {
         return verdict;
@@ -141,14 +156,10 @@ pub fn replace_letter(
         post_types,
         post_categories,
         base,
-        features,
-        mongolian,
+        manner,
         actions,
         masks,
-        place,
-        code,
-        joining_type,
-        category,
+        request,
     );
     verdict
 }

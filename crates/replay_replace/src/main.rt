@@ -4,6 +4,7 @@
 use letters::Category;
 use letters::Code;
 use letters::JoiningType;
+use replacing::Request;
 use replays::Case;
 use tallies::Outcome;
 
@@ -48,10 +49,12 @@ fn replay(body: &[u8]) -> Outcome {
         cases::first_u8(mongolian) == 1,
         actions,
         masks,
-        columns::wide(place_room[0]),
-        Code(code_room[0]),
-        JoiningType(cases::first_u8(joining_type)),
-        Category(cases::first_u8(category)),
+        Request {
+            place: columns::wide(place_room[0]),
+            code: Code(code_room[0]),
+            joining_type: JoiningType(cases::first_u8(joining_type)),
+            category: Category(cases::first_u8(category)),
+        },
     );
     let number = cases::same_u8(body, &mut at, &[verdict.number()]);
     let coded = cases::same_u32(body, &mut at, codes);

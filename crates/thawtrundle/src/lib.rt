@@ -7,11 +7,11 @@ ghost use Rattle.refusals.specs.Columns.{yes};
 ghost use Rattle.refusals.specs.Left.{After};
 ghost use Rattle.recording.specs.Recorded.{recordAfter};
 ghost use Rattle.recording.specs.Recorded.{requestOf as recordingOf, outcome as recordedAs};
-ghost use Rattle.lines.specs.Held.{settingOf, lineOf};
+ghost use Rattle.lines.specs.Held.{settingLent, lineLent};
 ghost use Rattle.lines.specs.Joined.{joinAfter};
 ghost use Rattle.replacing.specs.Replaced.{requestOf, replaceAfter};
 ghost use Rattle.marks.specs.Reordered.{requestOf as partOf, columnsOf, reorderAfter};
-ghost use Rattle.runs.specs.Records.{columns};
+ghost use Rattle.runs.specs.Records.{columnsLent};
 ghost use Rattle.stretching.specs.Stretching.{stretchedLimit, stretchAfter};
 ghost use Rattle.stretching.specs.Stretching.{requestOf as stretchOf, outcome as stretchedAs};
 ghost use Rattle.layouts.specs.declared.Kind.the-variants.{Single, Ligature};
@@ -32,6 +32,7 @@ use letters::Code;
 use letters::JoiningType;
 use marks::Merged;
 use reading::Answer;
+use replacing::Request;
 
 // Joins a line (`lines::join_line`).
 #[no_mangle]
@@ -49,7 +50,10 @@ pub extern "C" fn tt_join_line(
     actions: &mut [u8],
     masks: &mut [u32],
 ) -> u8
-    ensures { λ r. ⌜ After r (lineOf (now (codes .entry)) (now (types .entry)) (now (categories .entry)) (now (base .entry)) (now (actions .exit)) (now (masks .exit))) ≡ joinAfter (settingOf (now («pre_types» .entry)) (now («pre_categories» .entry)) (now («post_types» .entry)) (now («post_categories» .entry)) (now (features .entry)) (yes mongolian)) (lineOf (now (codes .entry)) (now (types .entry)) (now (categories .entry)) (now (base .entry)) (now (actions .entry)) (now (masks .entry))) ⌝ }
+    ensures { λ r.
+        let s = settingLent «pre_types» «pre_categories» «post_types» «post_categories» (now (features .entry)) (yes mongolian) in
+        let l = lineLent codes types categories base actions masks in
+        ⌜ After r (l .exit) ≡ joinAfter s (l .entry) ⌝ }
 {
     let verdict = lines::join_line(
         codes,
@@ -88,7 +92,11 @@ pub extern "C" fn tt_replace_letter(
     joining_type: u8,
     category: u8,
 ) -> u8
-    ensures { λ r. ⌜ After r (lineOf (now (codes .exit)) (now (types .exit)) (now (categories .exit)) (now (base .entry)) (now (actions .exit)) (now (masks .exit))) ≡ replaceAfter (settingOf (now («pre_types» .entry)) (now («pre_categories» .entry)) (now («post_types» .entry)) (now («post_categories» .entry)) (now (features .entry)) (yes mongolian)) (requestOf place code «joining_type» category) (lineOf (now (codes .entry)) (now (types .entry)) (now (categories .entry)) (now (base .entry)) (now (actions .entry)) (now (masks .entry))) ⌝ }
+    ensures { λ r.
+        let s = settingLent «pre_types» «pre_categories» «post_types» «post_categories» (now (features .entry)) (yes mongolian) in
+        let q = requestOf place code «joining_type» category in
+        let l = lineLent codes types categories base actions masks in
+        ⌜ After r (l .exit) ≡ replaceAfter s q (l .entry) ⌝ }
 {
     let verdict = replacing::replace_letter(
         codes,
@@ -103,10 +111,12 @@ pub extern "C" fn tt_replace_letter(
         mongolian != 0,
         actions,
         masks,
-        place,
-        Code(code),
-        JoiningType(joining_type),
-        Category(category),
+        Request {
+            place,
+            code: Code(code),
+            joining_type: JoiningType(joining_type),
+            category: Category(category),
+        },
     );
     verdict.number()
 }
@@ -188,7 +198,10 @@ pub extern "C" fn tt_stretch(
     to_offsets: &mut [i32],
     length: &mut usize,
 ) -> u8
-    ensures { λ r. ⌜ After r (stretchedAs (now (length .exit)) (columns (now («to_glyphs» .exit)) (now («to_widths» .exit)) (now («to_categories» .exit)) (now («to_ignorables» .exit)) (now («to_actions» .exit)) (now («to_advances» .exit)) (now («to_offsets» .exit)))) ≡ stretchAfter stretchedLimit (stretchOf (yes recorded) (yes rtl) (columns (now (glyphs .entry)) (now (widths .entry)) (now (categories .entry)) (now (ignorables .entry)) (now (actions .entry)) (now (advances .entry)) (now (offsets .entry)))) (columns (now («to_glyphs» .entry)) (now («to_widths» .entry)) (now («to_categories» .entry)) (now («to_ignorables» .entry)) (now («to_actions» .entry)) (now («to_advances» .entry)) (now («to_offsets» .entry))) ⌝ }
+    ensures { λ r.
+        let line = columnsLent glyphs widths categories ignorables actions advances offsets in
+        let output = columnsLent «to_glyphs» «to_widths» «to_categories» «to_ignorables» «to_actions» «to_advances» «to_offsets» in
+        ⌜ After r (stretchedAs (now (length .exit)) (output .exit)) ≡ stretchAfter stretchedLimit (stretchOf (yes recorded) (yes rtl) (line .entry)) (output .entry) ⌝ }
 {
     let answer = stretching::stretch(
         recorded != 0,

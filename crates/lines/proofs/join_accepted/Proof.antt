@@ -7,35 +7,43 @@ use Prim.Native.Nat.{ℕ}
 use borrow.Author.Needs.{needs}
 use Rattle.selectors.specs.Selectors.{settled}
 use Rattle.masks.specs.Masks.{masks}
-use Rattle.lines.specs.Held.{Setting, Line, settingOf, lineOf}
+use Rattle.lines.specs.Held.{Setting, Line, settingNow, lineNow}
 use Rattle.lines.proofs.LineLaws.{Accepted, accepted, same-line}
 use Rattle.lines.proofs.join_accepted.Statement.{statement}
 use Rattle.lines.proofs.join_accepted.Tie as tie
 
 -- what the call was given
 abbrev setting : tie.Start → Setting
-setting s = let a = s .args in settingOf (a .pre-types .now) (a .pre-categories .now) (a .post-types .now) (a .post-categories .now) (a .features) (a .mongolian)
+setting s = let a = s .args in settingNow (a .pre-types) (a .pre-categories) (a .post-types) (a .post-categories) (a .manner)
 
 abbrev line : tie.Start → Line
-line s = let a = s .args in lineOf (a .codes .now) (a .types .now) (a .categories .now) (a .base .now) (a .actions .now) (a .masks .now)
+line s = let a = s .args in lineNow (a .codes) (a .types) (a .categories) (a .base) (a .actions) (a .masks)
+
+-- the way back from the walk
+abbrev start : tie.After-arabic-joining → tie.Start
+start c = search
 
 given : (s : tie.Start) → Accepted (setting s) (line s)
 given s = accepted (setting s) (line s) (s .pre)
 
 arabic-joining-requires : tie.Need-arabic-joining-requires
 arabic-joining-requires c κs =
-    let g = given (c .before .before .before .before .before .before .before .before .before .before .before) in
+    let s : tie.Start = search in
+    let g = given s in
     (g .line, (g .pre, (g .post, g .actions)))
 
 settle-requires : tie.Need-settle-requires
 settle-requires c κs =
-    let g = given (c .before .before .before .before .before .before .before .before .before .before .before .before .before .before .before) in
-    g .codes ∙ sym (c .before .before .before .arabic-joining .kept .1 .1 .1 .1 .1 .1 .0 ∙ g .actions)
+    let s : tie.Start = search in
+    let joined : tie.After-arabic-joining = search in
+    given s .codes ∙ sym (joined .arabic-joining .kept .1 .1 .1 .1 .1 .1 .0 ∙ given s .actions)
 
 setup-masks-requires : tie.Need-setup-masks-requires
 setup-masks-requires c κs =
-    let g = given (c .before .before .before .before .before .before .before .before .before .before .before .before .before .before .before .before .before .before .before .before) in
-    let actions = c .before .before .before .before .settle .kept .1 .1 .0 ∙ c .before .before .before .before .before .before .before .before .arabic-joining .kept .1 .1 .1 .1 .1 .1 .0 ∙ g .actions in
+    let acted : tie.After-settle = search in
+    let joined : tie.After-arabic-joining = search in
+    let g = given (start joined) in
+    let actions = acted .settle .kept .1 .1 .0 ∙ joined .arabic-joining .kept .1 .1 .1 .1 .1 .1 .0 ∙ g .actions in
     (g .base ∙ sym actions, g .base ∙ sym (g .masks))
 
 same-length : tie.Need-same-length
@@ -46,10 +54,13 @@ same-length-2 c = search needs
 
 returns : tie.Need-returns
 returns c =
-    let s = c .before .before .before .before .before .before .before .before .before .before .before .before .before .before .before .before .before .before .before .before .before .before .before in
-    let joined = c .before .before .before .before .before .before .before .before .before .before .before .arabic-joining .ensures in
-    let acted = c .before .before .before .before .before .before .before .settle .ensures ∙ ap (λ (l : List ℕ). cond (s .args .mongolian) (settled (s .args .codes .now) l) l) joined in
-    let masked = c .before .before .setup-masks .ensures ∙ ap (masks (s .args .features) (s .args .base .now)) acted in
+    let put : tie.After-setup-masks = search in
+    let settle : tie.After-settle = search in
+    let join : tie.After-arabic-joining = search in
+    let s = start join in
+    let manner = s .args .manner in
+    let acted = settle .settle .ensures ∙ ap (λ (l : List ℕ). cond (manner .mongolian) (settled (s .args .codes .now) l) l) (join .arabic-joining .ensures) in
+    let masked = put .setup-masks .ensures ∙ ap (masks (manner .features) (s .args .base .now)) acted in
     same-line (line s .codes) (line s .letters) (line s .base) acted masked
 
 pub join-accepted-spec : {M : Type 1} → statement M

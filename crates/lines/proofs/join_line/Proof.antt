@@ -5,7 +5,7 @@ use mathlib.Core.Bool.{Bool}
 use borrow.Author.Needs.{needs}
 use Rattle.laws.specs.Rows.{first}
 use Rattle.refusals.specs.Numbers.{said}
-use Rattle.lines.specs.Held.{Setting, Line, settingOf, lineOf}
+use Rattle.lines.specs.Held.{Setting, Line, settingNow, lineNow}
 use Rattle.lines.specs.Joined.{refusalRows, refusal, joinedLine}
 use Rattle.refusals.proofs.LeftLaws.{left-refused, left-done}
 use Rattle.lines.proofs.join_line.Statement.{statement}
@@ -13,16 +13,20 @@ use Rattle.lines.proofs.join_line.Tie as tie
 
 -- what the call was given
 abbrev setting : tie.Start → Setting
-setting s = let a = s .args in settingOf (a .pre-types .now) (a .pre-categories .now) (a .post-types .now) (a .post-categories .now) (a .features) (a .mongolian)
+setting s = let a = s .args in settingNow (a .pre-types) (a .pre-categories) (a .post-types) (a .post-categories) (a .manner)
 
 abbrev line : tie.Start → Line
-line s = let a = s .args in lineOf (a .codes .now) (a .types .now) (a .categories .now) (a .base .now) (a .actions .now) (a .masks .now)
+line s = let a = s .args in lineNow (a .codes) (a .types) (a .categories) (a .base) (a .actions) (a .masks)
+
+-- the way back from the test
+abbrev start : tie.After-number → tie.Start
+start c = search
 
 -- the number that is tested
-found : (c : tie.After-number) → let s = c .before .before .before .before .before .before .before .before .before .before .before .before .before .before .before in said (c .before .refused .result) ≡ refusal (setting s) (line s)
+found : (c : tie.After-number) → let s = start c in said (c .before .refused .result) ≡ refusal (setting s) (line s)
 unfolding refusal
 found c =
-    let s = c .before .before .before .before .before .before .before .before .before .before .before .before .before .before .before in
+    let s = start c in
     c .before .refused .ensures ∙ ap (λ (b : Bool). first (refusalRows b (line s .letters) (setting s .pre) (setting s .post))) (c .before .before .even-line .ensures)
 
 even-line-requires : tie.Need-even-line-requires
@@ -42,7 +46,7 @@ same-length-2 c = search needs
 
 returns : tie.Need-returns
 returns c =
-    let s = c .before .before .before .before .before .before .before .before .before .before .before .before .before .before .before .before in
+    let s = start (c .before) in
     left-refused _ (line s) (joinedLine (setting s) (line s)) _ (found (c .before)) (λ z. c .if1 .taken (c .before .number .ensures ∙ z))
 
 join-accepted-requires : tie.Need-join-accepted-requires
@@ -58,9 +62,10 @@ same-length-4 c = search needs
 
 returns-2 : tie.Need-returns-2
 returns-2 c =
-    let e = c .before .before .before .before .before .before .before in
-    let s = e .before .before .before .before .before .before .before .before .before .before .before .before .before .before .before .before in
-    left-done _ (line s) (joinedLine (setting s) (line s)) _ _ (found (e .before)) (sym (e .before .number .ensures) ∙ e .if1 .left) (c .before .before .before .before .join-accepted .ensures)
+    let join : tie.After-join-accepted = search in
+    let tested : tie.Else1 = search in
+    let s = start (tested .before) in
+    left-done _ (line s) (joinedLine (setting s) (line s)) _ _ (found (tested .before)) (sym (tested .before .number .ensures) ∙ tested .if1 .left) (join .join-accepted .ensures)
 
 pub join-line-spec : {M : Type 1} → statement M
 join-line-spec =

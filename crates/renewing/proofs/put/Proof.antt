@@ -59,14 +59,15 @@ loop-less c = search needs
 
 loop-again : tie.Need-loop-again Inv-loop μ-loop
 loop-again c =
-    let w = c .before .before in
-    let l = w .before .before .loop in
-    let a = w .before .before .before .before .before .before .args in (
+    let s : tie.Start Inv-loop μ-loop = search in
+    let numbered : tie.After-number Inv-loop μ-loop = search in
+    let l = c .before .before .before .before .loop in
+    let a = s .args in (
       search needs,
       search needs,
       simp length-set (l .inv .2),
       simp length-set (l .inv .3),
-      span-next (a .k) _ (a .actions .now) (l .i) _ (l .actions) (l .inv .0) (search needs) (w .number .ensures) (l .inv .4),
+      span-next (a .k) _ (a .actions .now) (l .i) _ (l .actions) (l .inv .0) (search needs) (numbered .number .ensures) (l .inv .4),
       span-next (a .k) _ (a .masks .now) (l .i) _ (l .masks) (l .inv .0) (search needs) (c .mask-of .ensures) (l .inv .5),
     )
 
@@ -78,8 +79,9 @@ same-length-2 c = search needs
 
 returns : tie.Need-returns Inv-loop μ-loop
 returns c =
+    let s : tie.Start Inv-loop μ-loop = search in
     let l = c .before .loop in
-    let a = c .before .before .before .before .before .args in
+    let a = s .args in
     let e : l .i ≡ a .end = omega (arith, l .inv .1, c .loop-test .left) in
     (span-ends (a .k) _ (a .actions .now) (l .i) (a .end) _ e (l .inv .4), span-ends (a .k) _ (a .masks .now) (l .i) (a .end) _ e (l .inv .5))
 

@@ -10,7 +10,7 @@ use Rattle.renewing.proofs.renew.Tie as tie
 
 fresh-action-requires : tie.Need-fresh-action-requires
 fresh-action-requires c κs =
-    let s = c .before .before .before .before .before .before .before in
+    let s : tie.Start = search in
     let h = c .if1 .taken in
     (s .pre .0 .letters, ((s .pre .0 .codes, h), (s .pre .1 .0 h, s .pre .1 .1 h)))
 
@@ -19,9 +19,11 @@ reach-end-requires c κs = search needs
 
 put-requires : tie.Need-put-requires
 put-requires c κs =
-    let s = c .before .before .before .before .before .before .before .before .before .before .before in
+    let s : tie.Start = search in
+    let branch : tie.Then1 = search in
+    let end : tie.After-reach-end = search in
     let held = s .pre .0 in
-    let reach = reach-within (s .args .mongolian) (s .args .codes .now) (s .args .k) _ (c .before .before .reach-end .ensures) (omega (arith, held .codes, c .before .before .before .before .if1 .taken)) in
+    let reach = reach-within (s .args .frame .mongolian) (s .args .codes .now) (s .args .k) _ (end .reach-end .ensures) (omega (arith, held .codes, branch .if1 .taken)) in
     ((held .features, reach .0, omega (arith, reach .1, held .codes, held .base)), (held .actions ∙ sym (held .base), held .masks ∙ sym (held .base)))
 
 same-length : tie.Need-same-length
@@ -32,12 +34,16 @@ same-length-2 c = search needs
 
 returns : tie.Need-returns
 returns c =
-    let s = c .before .before .before .before .before .before .before .before .before .before .before .before .before .before .before .before in
-    let done = c .before .before .before .before .put .ensures in
-    line-renewed (s .pre .0) (s .args .k) _ _ _ _ (c .before .before .before .before .before .before .before .before .fresh-action .ensures) (c .before .before .before .before .before .before .before .reach-end .ensures) (done .0) (done .1)
+    let s : tie.Start = search in
+    let fresh : tie.After-fresh-action = search in
+    let end : tie.After-reach-end = search in
+    let done : tie.After-put = search in
+    line-renewed (s .pre .0) (s .args .k) _ _ _ _ (fresh .fresh-action .ensures) (end .reach-end .ensures) (done .put .ensures .0) (done .put .ensures .1)
 
 returns-2 : tie.Need-returns-2
-returns-2 c = let s = c .before .before .before .before .before .before .before in line-stays (s .pre .0) (s .args .k) (c .if1 .left)
+returns-2 c =
+    let s : tie.Start = search in
+    line-stays (s .pre .0) (s .args .k) (c .if1 .left)
 
 pub renew-spec : {M : Type 1} → statement M
 renew-spec =

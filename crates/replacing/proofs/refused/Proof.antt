@@ -8,7 +8,7 @@ use Rattle.laws.specs.Rows.{Given, first, sooner}
 use Rattle.laws.proofs.RowLaws.{sooner-first}
 use Rattle.lines.specs.Held.{lettersOf, lineOf}
 use Rattle.lines.specs.Joined.{evenLine, uneven, tooLong, strange}
-use Rattle.replacing.specs.Replaced.{requestOf, strangeRequest, outside}
+use Rattle.replacing.specs.Replaced.{asked, strangeRequest, outside}
 use Rattle.replacing.proofs.refused.Statement.{statement}
 use Rattle.replacing.proofs.refused.Tie as tie
 
@@ -19,6 +19,10 @@ table :
 table a b c d e =
     rw (sooner-first (Given 3 d ∷ []) (Given 4 e ∷ []) refl refl)
     (sooner-first (Given 1 a ∷ Given 2 b ∷ Given 3 c ∷ []) (Given 3 d ∷ Given 4 e ∷ []) refl refl)
+
+-- what the call was given
+abbrev start : tie.After-even-line → tie.Start
+start c = search
 
 even-line-requires : tie.Need-even-line-requires
 even-line-requires c κs = search needs
@@ -43,14 +47,20 @@ sooner-requires-2 c κs = search needs
 
 returns : tie.Need-returns
 returns c =
-    let a = c .before .before .before .before .before .before .before .before .before .before .before .before .before .before .before .before .before .before .before .before .before .args in
+    let both : tie.After-sooner = search in
+    let outer : tie.After-unless2 = search in
+    let inner : tie.After-unless = search in
+    let acted : tie.After-within = search in
+    let line-refused : tie.After-refused = search in
+    let even : tie.After-even-line = search in
+    let a = start even .args in
     let line = lineOf (a .codes .now) (a .types .now) (a .categories .now) (a .base .now) (a .actions .now) (a .masks .now) in
-    let asked = requestOf (a .place) 0 (a .joining-type .0) (a .category .0) in
+    let request = asked (a .request) in
     let pre = lettersOf (a .pre-types .now) (a .pre-categories .now) in
     let post = lettersOf (a .post-types .now) (a .post-categories .now) in
     rw
-    (c .sooner2 .ensures, c .before .sooner .ensures, c .before .before .unless2 .ensures, c .before .before .before .unless .ensures, c .before .before .before .before .before .before .before .before .within .ensures, c .before .before .before .before .before .before .before .before .before .refused .ensures, c .before .before .before .before .before .before .before .before .before .before .even-line .ensures)
-    (table (uneven (evenLine line) pre post) (tooLong (line .letters) pre post) (strange (line .letters) pre post) (strangeRequest asked line) (outside asked line))
+    (c .sooner2 .ensures, both .sooner .ensures, outer .unless2 .ensures, inner .unless .ensures, acted .within .ensures, line-refused .refused .ensures, even .even-line .ensures)
+    (table (uneven (evenLine line) pre post) (tooLong (line .letters) pre post) (strange (line .letters) pre post) (strangeRequest request line) (outside request line))
 
 pub refused-spec : {M : Type 1} → statement M
 refused-spec =

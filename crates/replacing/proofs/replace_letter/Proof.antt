@@ -4,27 +4,31 @@ use mathlib.Core.Path.{_≡_, sym, _∙_}
 use borrow.Author.Needs.{needs}
 use Rattle.refusals.specs.Numbers.{said}
 use Rattle.refusals.proofs.LeftLaws.{left-refused, left-done}
-use Rattle.lines.specs.Held.{Setting, Line, settingOf, lineOf}
+use Rattle.lines.specs.Held.{Setting, Line, settingNow, lineNow}
 use Rattle.lines.specs.Joined.{frameOf}
-use Rattle.replacing.specs.Replaced.{Request, requestOf, replacedLine, replaceRefusal}
+use Rattle.replacing.specs.Replaced.{Request, asked, replacedLine, replaceRefusal}
 use Rattle.replacing.proofs.replace_letter.Statement.{statement}
 use Rattle.replacing.proofs.replace_letter.Tie as tie
 
 -- what the call was given, and the line that it leaves if it is accepted
 abbrev setting : tie.Start → Setting
-setting s = let a = s .args in settingOf (a .pre-types .now) (a .pre-categories .now) (a .post-types .now) (a .post-categories .now) (a .features) (a .mongolian)
+setting s = let a = s .args in settingNow (a .pre-types) (a .pre-categories) (a .post-types) (a .post-categories) (a .manner)
 
 abbrev line : tie.Start → Line
-line s = let a = s .args in lineOf (a .codes .now) (a .types .now) (a .categories .now) (a .base .now) (a .actions .now) (a .masks .now)
+line s = let a = s .args in lineNow (a .codes) (a .types) (a .categories) (a .base) (a .actions) (a .masks)
 
 abbrev request : tie.Start → Request
-request s = let a = s .args in requestOf (a .place) (a .code .0) (a .joining-type .0) (a .category .0)
+request s = asked (s .args .request)
 
 abbrev new : tie.Start → Line
 new s = replacedLine (frameOf (setting s)) (request s) (line s)
 
+-- the way back from the test
+abbrev start : tie.After-number → tie.Start
+start c = search
+
 -- the number that is tested
-found : (c : tie.After-number) → let s = c .before .before .before .before .before .before .before .before .before .before .before .before .before .before .before .before .before in said (c .before .refused .result) ≡ replaceRefusal (setting s) (request s) (line s)
+found : (c : tie.After-number) → let s = start c in said (c .before .refused .result) ≡ replaceRefusal (setting s) (request s) (line s)
 unfolding replaceRefusal
 found c = c .before .refused .ensures
 
@@ -51,13 +55,13 @@ same-length-5 c = search needs
 
 returns : tie.Need-returns
 returns c =
-    let s = c .before .before .before .before .before .before .before .before .before .before .before .before .before .before .before .before .before .before in
+    let s = start (c .before) in
     left-refused _ (line s) (new s) _ (found (c .before)) (λ z. c .if1 .taken (c .before .number .ensures ∙ z))
 
 replace-accepted-requires : tie.Need-replace-accepted-requires
 replace-accepted-requires c κs =
-    let e = c .before .before .before .before .before in
-    sym (found (e .before)) ∙ sym (e .before .number .ensures) ∙ e .if1 .left
+    let tested : tie.Else1 = search in
+    sym (found (tested .before)) ∙ sym (tested .before .number .ensures) ∙ tested .if1 .left
 
 same-length-6 : tie.Need-same-length-6
 same-length-6 c = search needs
@@ -76,9 +80,10 @@ same-length-10 c = search needs
 
 returns-2 : tie.Need-returns-2
 returns-2 c =
-    let e = c .before .before .before .before .before .before .before .before .before .before .before .before .before .before .before .before in
-    let s = e .before .before .before .before .before .before .before .before .before .before .before .before .before .before .before .before .before .before in
-    left-done _ (line s) (new s) _ _ (found (e .before)) (sym (e .before .number .ensures) ∙ e .if1 .left) (c .before .before .before .before .before .before .before .before .before .before .replace-accepted .ensures)
+    let put : tie.After-replace-accepted = search in
+    let tested : tie.Else1 = search in
+    let s = start (tested .before) in
+    left-done _ (line s) (new s) _ _ (found (tested .before)) (sym (tested .before .number .ensures) ∙ tested .if1 .left) (put .replace-accepted .ensures)
 
 pub replace-letter-spec : {M : Type 1} → statement M
 replace-letter-spec =

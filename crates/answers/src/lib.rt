@@ -6,6 +6,7 @@ ghost use lib.ListN.{length};
 ghost use Rattle.texts.specs.Form.{Close, whole};
 ghost use Rattle.printing.specs.Writing.{Wrote, filled};
 ghost use Rattle.answers.specs.Output.{lineText, output, linesText, answerText, Even};
+use lines::Manner;
 use texts::Told;
 
 // Lines of a text, at most.
@@ -41,8 +42,10 @@ fn line(
         &none,
         &none,
         base,
-        [0; 7],
-        false,
+        Manner {
+            features: [0; 7],
+            mongolian: false,
+        },
         actions,
         masks,
     );

@@ -20,8 +20,8 @@ use Rattle.lines.specs.Held.{Line}
 use Rattle.lines.specs.Joined.{typesOf, freshActions, freshLine}
 use Rattle.lines.proofs.LineLaws.{length-fresh, formed, same-line}
 use Rattle.renewing.specs.Renewable.{Renewable}
-use Rattle.renewing.specs.Renewed.{reached, touched, renewed, renewedLine}
-use Rattle.renewing.proofs.RenewLaws.{span, length-renewed, renewed-alike, renewed-none, renewed-twice}
+use Rattle.renewing.specs.Renewed.{reached, touched, renewed, renewedLine, span}
+use Rattle.renewing.proofs.RenewLaws.{length-renewed, renewed-alike, renewed-none, renewed-twice}
 use Rattle.renewing.proofs.FreshLaws.{fresh-run}
 
 -- the records that k reaches are those from k to before an end

@@ -12,7 +12,7 @@ use borrow.Author.Tests.{ltb-true, ltb-false, eqb-true, eqb-false, le-leb, lt-le
 use lib.Dec.{eqb, leb, ltb}
 use lib.ListN.{length, getD, set, length-set, List·getD-eq-default}
 use lib.Seq.{getD-set-same, getD-set-other, ext-getD}
-use Rattle.renewing.specs.Renewed.{renewed}
+use Rattle.renewing.specs.Renewed.{renewed, span}
 
 pub length-renewed : (at : ℕ → Bool) (fresh : ℕ → ℕ) (xs : List ℕ) → length (renewed at fresh xs) ≡ length xs
 length-renewed at fresh [] = refl
@@ -118,9 +118,6 @@ module _ (one one′ other other′ : ℕ → Bool) (x y both : ℕ → ℕ) (co
       go j a false b false l r = rw (l refl .0, r refl .0)
 
 -- ---- a turn of the loop that renews the records from k to before i
-abbrev pub span : ℕ → ℕ → ℕ → Bool
-span k i j = leb k j && ltb j i
-
 span-none : (k j : ℕ) → span k k j ≡ false
 span-none k j = go (ltb j k) refl
   where

@@ -1,10 +1,10 @@
 -- The records that a new letter touches, joined afresh (document 01, "Replacing a letter"): `reached`, `touched` which they are; `renewed`, `renewedLine` what they and
--- the others have then.
+-- the others have then; `span` the records of a part.
 -- Assumes nothing.
 use mathlib.Core.Bool.{Bool, cond, _&&_, _||_}
 use mathlib.Core.List.{List, [], _∷_}
 use Prim.Native.Nat.{ℕ, suc, _+_}
-use lib.Dec.{leb}
+use lib.Dec.{leb, ltb}
 use lib.ListN.{getD, drop}
 use Rattle.shapes.specs.Places.{placeBefore, placeBehind}
 use Rattle.selectors.specs.Selectors.{run}
@@ -28,6 +28,10 @@ touched f l p j =
 abbrev pub renewed : (ℕ → Bool) → (ℕ → ℕ) → List ℕ → List ℕ
 renewed at fresh [] = []
 renewed at fresh (x ∷ xs) = cond (at 0) (fresh 0) x ∷ renewed (λ j. at (suc j)) (λ j. fresh (suc j)) xs
+
+-- the records from k to before end
+abbrev pub span : ℕ → ℕ → ℕ → Bool
+span k end j = leb k j && ltb j end
 
 -- a line in which the records of which `at` holds have "the action and mask that fresh joining gives". "Nothing else changes, even where the line was not current before"
 abbrev pub renewedLine : Frame → (ℕ → Bool) → Line → Line

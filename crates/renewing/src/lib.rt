@@ -1,9 +1,9 @@
 // Renewing: the records that a new letter touches get what fresh joining gives, by walks outward from its place to the second letter on each side,
 // and over the runs of selectors there.
 ghost use mathlib.Core.Path.{_≡_};
-ghost use mathlib.Core.Bool.{cond, _&&_};
-ghost use Prim.Native.Nat.{_+_, _<_, _≤_};
-ghost use lib.Dec.{leb, ltb};
+ghost use mathlib.Core.Bool.{cond};
+ghost use Prim.Native.Nat.{ℕ, _+_, _<_, _≤_};
+ghost use lib.Dec.{ltb};
 ghost use lib.ListN.{length, getD, take, drop};
 ghost use Rattle.shapes.specs.Joining.{passed, latest, nearest, lineTypes};
 ghost use Rattle.selectors.specs.Selectors.{run, base as baseOf};
@@ -11,8 +11,8 @@ ghost use Rattle.masks.specs.Masks.{mask};
 ghost use Rattle.joining.specs.Joinable.{Joinable};
 ghost use Rattle.lines.specs.Held.{lineNow, lineLent};
 ghost use Rattle.lines.specs.Joined.{actionsBetween};
-ghost use Rattle.renewing.specs.Renewed.{reached, touched, renewed, renewedLine};
-ghost use Rattle.renewing.specs.Renewable.{Renewable};
+ghost use Rattle.renewing.specs.Renewed.{reached, touched, renewed, span, renewedLine};
+ghost use Rattle.renewing.specs.Renewable.{Renewable, Beside};
 use letters::Action;
 use letters::JoiningType;
 use lines::Frame;
@@ -51,8 +51,10 @@ fn fresh_action(
 ) -> Action
     requires { ⌜ Joinable (now types) (now categories) ⌝ }
     requires { ⌜ (length (now codes) ≡ length (now types)) × (k < length (now types)) ⌝ }
-    requires { ⌜ (p ≡ latest (frame .before) (take k (lineTypes (now types) (now categories)))) × (n ≡ nearest (drop (k + 1) (lineTypes (now types) (now categories))) (frame .behind)) ⌝ }
-    ensures { λ r. ⌜ r .0 ≡ getD (actionsBetween (frame .mongolian) (now (codes .entry)) (frame .before) (lineTypes (now (types .entry)) (now (categories .entry))) (frame .behind)) k 0 ⌝ }
+    requires { ⌜ Beside frame (lineTypes (now types) (now categories)) k p n ⌝ }
+    ensures { λ r.
+        let ts = lineTypes (now (types .entry)) (now (categories .entry)) in
+        ⌜ r .0 ≡ getD (actionsBetween (frame .mongolian) (now (codes .entry)) (frame .before) ts (frame .behind)) k 0 ⌝ }
 {
     let at = home(frame.mongolian, codes, k);
     let t = joining::type_at(types, categories, at);
@@ -76,8 +78,10 @@ fn put(
 )
     requires { ⌜ (length (now features) ≡ 7) × (k ≤ end) × (end ≤ length (now base)) ⌝ }
     requires { ⌜ (length (now actions) ≡ length (now base)) × (length (now masks) ≡ length (now base)) ⌝ }
-    ensures actions { λ _. ⌜ now (actions .exit) ≡ renewed (λ j. leb k j && ltb j end) (λ j. action .0) (now (actions .entry)) ⌝ }
-    ensures masks { λ _. ⌜ now (masks .exit) ≡ renewed (λ j. leb k j && ltb j end) (λ j. mask (now (features .entry)) (getD (now (base .entry)) j 0) (action .0)) (now (masks .entry)) ⌝ }
+    ensures actions { λ _. ⌜ now (actions .exit) ≡ renewed (span k end) (λ j. action .0) (now (actions .entry)) ⌝ }
+    ensures masks { λ _.
+        let masked : ℕ → ℕ = λ j. mask (now (features .entry)) (getD (now (base .entry)) j 0) (action .0) in
+        ⌜ now (masks .exit) ≡ renewed (span k end) masked (now (masks .entry)) ⌝ }
 {
     let mut i = k;
     while i < end {
@@ -102,8 +106,7 @@ fn renew(
     masks: &mut [u32],
 )
     requires { ⌜ Renewable frame (lineNow codes types categories base actions masks) ⌝ }
-    requires { ⌜ (k < length (now types) → p ≡ latest (frame .before) (take k (lineTypes (now types) (now categories)))) ⌝ }
-    requires { ⌜ (k < length (now types) → n ≡ nearest (drop (k + 1) (lineTypes (now types) (now categories))) (frame .behind)) ⌝ }
+    requires { ⌜ (k < length (now types) → Beside frame (lineTypes (now types) (now categories)) k p n) ⌝ }
     ensures { λ _.
         let l = lineLent codes types categories base actions masks in
         ⌜ l .exit ≡ renewedLine frame (reached (frame .mongolian) (l .entry .codes) k) (l .entry) ⌝ }

@@ -4,6 +4,7 @@
 use letters::Category;
 use letters::Code;
 use letters::JoiningType;
+use lines::Manner;
 use replacing::Request;
 use replays::Case;
 use tallies::Outcome;
@@ -45,8 +46,10 @@ fn replay(body: &[u8]) -> Outcome {
         post_types,
         post_categories,
         base,
-        features,
-        cases::first_u8(mongolian) == 1,
+        Manner {
+            features,
+            mongolian: cases::first_u8(mongolian) == 1,
+        },
         actions,
         masks,
         Request {

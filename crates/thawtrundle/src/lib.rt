@@ -7,7 +7,7 @@ ghost use Rattle.refusals.specs.Columns.{yes};
 ghost use Rattle.refusals.specs.Left.{After};
 ghost use Rattle.recording.specs.Recorded.{recordAfter};
 ghost use Rattle.recording.specs.Recorded.{requestOf as recordingOf, outcome as recordedAs};
-ghost use Rattle.lines.specs.Held.{settingLent, lineLent};
+ghost use Rattle.lines.specs.Held.{mannerOf, settingLent, lineLent};
 ghost use Rattle.lines.specs.Joined.{joinAfter};
 ghost use Rattle.replacing.specs.Replaced.{requestOf, replaceAfter};
 ghost use Rattle.marks.specs.Reordered.{requestOf as partOf, columnsOf, reorderAfter};
@@ -30,6 +30,7 @@ use fallback::Needs;
 use letters::Category;
 use letters::Code;
 use letters::JoiningType;
+use lines::Manner;
 use marks::Merged;
 use reading::Answer;
 use replacing::Request;
@@ -51,10 +52,12 @@ pub extern "C" fn tt_join_line(
     masks: &mut [u32],
 ) -> u8
     ensures { λ r.
-        let s = settingLent «pre_types» «pre_categories» «post_types» «post_categories» (now (features .entry)) (yes mongolian) in
+        let manner = mannerOf (now (features .entry)) (yes mongolian) in
+        let s = settingLent «pre_types» «pre_categories» «post_types» «post_categories» manner in
         let l = lineLent codes types categories base actions masks in
         ⌜ After r (l .exit) ≡ joinAfter s (l .entry) ⌝ }
 {
+    let features = *features;
     let verdict = lines::join_line(
         codes,
         types,
@@ -64,8 +67,10 @@ pub extern "C" fn tt_join_line(
         post_types,
         post_categories,
         base,
-        *features,
-        mongolian != 0,
+        Manner {
+            features,
+            mongolian: mongolian != 0,
+        },
         actions,
         masks,
     );
@@ -93,11 +98,13 @@ pub extern "C" fn tt_replace_letter(
     category: u8,
 ) -> u8
     ensures { λ r.
-        let s = settingLent «pre_types» «pre_categories» «post_types» «post_categories» (now (features .entry)) (yes mongolian) in
+        let manner = mannerOf (now (features .entry)) (yes mongolian) in
+        let s = settingLent «pre_types» «pre_categories» «post_types» «post_categories» manner in
         let q = requestOf place code «joining_type» category in
         let l = lineLent codes types categories base actions masks in
         ⌜ After r (l .exit) ≡ replaceAfter s q (l .entry) ⌝ }
 {
+    let features = *features;
     let verdict = replacing::replace_letter(
         codes,
         types,
@@ -107,8 +114,10 @@ pub extern "C" fn tt_replace_letter(
         post_types,
         post_categories,
         base,
-        *features,
-        mongolian != 0,
+        Manner {
+            features,
+            mongolian: mongolian != 0,
+        },
         actions,
         masks,
         Request {

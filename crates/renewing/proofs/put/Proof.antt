@@ -6,8 +6,8 @@ use native.Mathlib.Omega.{arith}
 use borrow.Author.Needs.{needs}
 use lib.ListN.{length, getD, length-set}
 use Rattle.masks.specs.Masks.{mask}
-use Rattle.renewing.specs.Renewed.{renewed}
-use Rattle.renewing.proofs.RenewLaws.{span, span-begins, span-next, span-ends}
+use Rattle.renewing.specs.Renewed.{renewed, span}
+use Rattle.renewing.proofs.RenewLaws.{span-begins, span-next, span-ends}
 use Rattle.renewing.proofs.put.Statement.{statement}
 use Rattle.renewing.proofs.put.Tie as tie
 

@@ -81,14 +81,14 @@ renew-requires : tie.Need-renew-requires
 renew-requires c κs =
     let s : tie.Start = search in
     let at-further-behind : tie.After-further-behind = search in
-    (s .pre .0, ((λ h. back (c .before .before)), seen-beyond _ _ _ _ _ (at-further-behind .further-behind .ensures)))
+    (s .pre .0, λ h. (back (c .before .before), seen-beyond _ _ _ _ _ (at-further-behind .further-behind .ensures) h))
 
 renew-requires-2 : tie.Need-renew-requires-2
 renew-requires-2 c κs =
     let walked : tie.After-past2 = search in
     let at-further-before : tie.After-further-before = search in
     let at-renew : tie.After-renew = search in
-    (renewed-held (start walked .pre .0) _ _ (at-renew .renew .ensures), (seen-beyond _ _ _ _ _ (at-further-before .further-before .ensures), ahead walked))
+    (renewed-held (start walked .pre .0) _ _ (at-renew .renew .ensures), λ h. (seen-beyond _ _ _ _ _ (at-further-before .further-before .ensures) h, ahead walked h))
 
 renew-requires-3 : tie.Need-renew-requires-3
 renew-requires-3 c κs =
@@ -96,7 +96,7 @@ renew-requires-3 c κs =
     let at-renew : tie.After-renew = search in
     let walked : tie.After-past2 = search in
     let behind = renewed-held (start walked .pre .0) _ _ (at-renew .renew .ensures) in
-    (renewed-held behind _ _ (at-renew2 .renew2 .ensures), ((λ h. beside-before walked .letter-before .ensures .letter), (λ h. beside-behind walked .letter-from .ensures .letter)))
+    (renewed-held behind _ _ (at-renew2 .renew2 .ensures), λ h. (beside-before walked .letter-before .ensures .letter, beside-behind walked .letter-from .ensures .letter))
 
 same-length : tie.Need-same-length
 same-length c = search needs

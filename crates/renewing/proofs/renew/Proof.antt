@@ -12,7 +12,7 @@ fresh-action-requires : tie.Need-fresh-action-requires
 fresh-action-requires c κs =
     let s : tie.Start = search in
     let h = c .if1 .taken in
-    (s .pre .0 .letters, ((s .pre .0 .codes, h), (s .pre .1 .0 h, s .pre .1 .1 h)))
+    (s .pre .0 .letters, ((s .pre .0 .codes, h), s .pre .1 h))
 
 reach-end-requires : tie.Need-reach-end-requires
 reach-end-requires c κs = search needs

@@ -1,5 +1,5 @@
 -- The records that a new letter touches, joined afresh (document 01, "Replacing a letter"): `reached`, `touched` which they are; `renewed`, `renewedLine` what they and
--- the others have then; `span` the records of a part.
+-- the others have then; `span` the records of a part, `maskAt` the masks that they get.
 -- Assumes nothing.
 use mathlib.Core.Bool.{Bool, cond, _&&_, _||_}
 use mathlib.Core.List.{List, [], _∷_}
@@ -8,6 +8,7 @@ use lib.Dec.{leb, ltb}
 use lib.ListN.{getD, drop}
 use Rattle.shapes.specs.Places.{placeBefore, placeBehind}
 use Rattle.selectors.specs.Selectors.{run}
+use Rattle.masks.specs.Masks.{mask}
 use Rattle.lines.specs.declared.Frame.{Frame}
 use Rattle.lines.specs.Held.{Line}
 use Rattle.lines.specs.Joined.{typesOf, freshLine}
@@ -32,6 +33,10 @@ renewed at fresh (x ∷ xs) = cond (at 0) (fresh 0) x ∷ renewed (λ j. at (suc
 -- the records from k to before end
 abbrev pub span : ℕ → ℕ → ℕ → Bool
 span k end j = leb k j && ltb j end
+
+-- the mask of an action at a place, by the base mask there
+abbrev pub maskAt : List ℕ → List ℕ → ℕ → ℕ → ℕ
+maskAt features base action j = mask features (getD base j 0) action
 
 -- a line in which the records of which `at` holds have "the action and mask that fresh joining gives". "Nothing else changes, even where the line was not current before"
 abbrev pub renewedLine : Frame → (ℕ → Bool) → Line → Line

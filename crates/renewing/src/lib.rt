@@ -2,16 +2,15 @@
 // and over the runs of selectors there.
 ghost use mathlib.Core.Path.{_≡_};
 ghost use mathlib.Core.Bool.{cond};
-ghost use Prim.Native.Nat.{ℕ, _+_, _<_, _≤_};
+ghost use Prim.Native.Nat.{_+_, _<_, _≤_};
 ghost use lib.Dec.{ltb};
 ghost use lib.ListN.{length, getD, take, drop};
 ghost use Rattle.shapes.specs.Joining.{passed, latest, nearest, lineTypes};
 ghost use Rattle.selectors.specs.Selectors.{run, base as baseOf};
-ghost use Rattle.masks.specs.Masks.{mask};
 ghost use Rattle.joining.specs.Joinable.{Joinable};
 ghost use Rattle.lines.specs.Held.{lineNow, lineLent};
 ghost use Rattle.lines.specs.Joined.{actionsBetween};
-ghost use Rattle.renewing.specs.Renewed.{reached, touched, renewed, span, renewedLine};
+ghost use Rattle.renewing.specs.Renewed.{reached, touched, renewed, span, maskAt, renewedLine};
 ghost use Rattle.renewing.specs.Renewable.{Renewable, Beside};
 use letters::Action;
 use letters::JoiningType;
@@ -79,9 +78,7 @@ fn put(
     requires { ⌜ (length (now features) ≡ 7) × (k ≤ end) × (end ≤ length (now base)) ⌝ }
     requires { ⌜ (length (now actions) ≡ length (now base)) × (length (now masks) ≡ length (now base)) ⌝ }
     ensures actions { λ _. ⌜ now (actions .exit) ≡ renewed (span k end) (λ j. action .0) (now (actions .entry)) ⌝ }
-    ensures masks { λ _.
-        let masked : ℕ → ℕ = λ j. mask (now (features .entry)) (getD (now (base .entry)) j 0) (action .0) in
-        ⌜ now (masks .exit) ≡ renewed (span k end) masked (now (masks .entry)) ⌝ }
+    ensures masks { λ _. ⌜ now (masks .exit) ≡ renewed (span k end) (maskAt (now (features .entry)) (now (base .entry)) (action .0)) (now (masks .entry)) ⌝ }
 {
     let mut i = k;
     while i < end {

@@ -21,7 +21,8 @@ enum-known-first c = c .match .keys1
 
 returns : tie.Need-returns
 returns c =
-    let a = c .before .before .before .before .args in
+    let s : tie.Start = search in
+    let a = s .args in
     covered-stops (a .apart) (a .n) (a .bytes .now) (a .at) _ (c .before .exactly .ensures) (c .match .keys2)
 
 rise-requires : tie.Need-rise-requires

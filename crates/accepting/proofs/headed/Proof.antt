@@ -17,7 +17,9 @@ enum-known-first : tie.Need-enum-known-first
 enum-known-first c = c .match .keys1
 
 returns : tie.Need-returns
-returns c = headed-stops (c .before .before .before .before .args .kind) (c .before .before .before .before .args .bytes .now) _ (c .before .exactly .ensures) (c .match .keys2)
+returns c =
+    let s : tie.Start = search in
+    headed-stops (s .args .kind) (s .args .bytes .now) _ (c .before .exactly .ensures) (c .match .keys2)
 
 several-requires : tie.Need-several-requires
 several-requires c κs = took-place _ _ (c .before .first .given .1) (c .before .before .before .exactly .ensures) .1

@@ -23,7 +23,9 @@ slice-relend-prefix-turn-2 : tie.Need-slice-relend-prefix-turn-2
 slice-relend-prefix-turn-2 c = search needs
 
 slice-aggregate-turn-2 : tie.Need-slice-aggregate-turn-2
-slice-aggregate-turn-2 c = sym (length-take-le _ _ (fits (c .before .before .before .before)))
+slice-aggregate-turn-2 c =
+    let s : tie.Start = search in
+    sym (length-take-le _ _ (fits (s)))
 
 turn-requires : tie.Need-turn-requires
 turn-requires c κs =
@@ -45,10 +47,14 @@ same-length-2 c = search needs
 
 returns : tie.Need-returns
 returns c =
-    let s = c .before .before .before .before .before .before .before .before .before .before .before .before .before .before .before .before .before .before .before .before .before .before .before in
-    let first = c .before .before .before .before .before .before .before .before .before .before .before .before .before .before .before .before .before .before .turn in
-    c .before .before .before .before .turn3 .ensures
-    ∙ brought-forward (s .args .codes .now) (s .args .classes .now) (s .args .a) (s .args .n) (s .pre .0) (s .pre .1 .0) (s .pre .1 .1) (first .last .0) (first .last .1 .0) (first .kept .0 ∙ length-take-le _ _ (s .pre .1 .1) ∙ sym (first .kept .1 .0 ∙ length-take-le _ _ (fits s))) (first .ensures) _ (c .before .before .before .before .before .before .before .before .before .before .before .turn2 .ensures)
+    let start : tie.Start = search in
+    let at-turn3 : tie.After-turn3 = search in
+    let at-turn2 : tie.After-turn2 = search in
+    let at-turn : tie.After-turn = search in
+    let s = start in
+    let first = at-turn .turn in
+    at-turn3 .turn3 .ensures
+    ∙ brought-forward (s .args .codes .now) (s .args .classes .now) (s .args .a) (s .args .n) (s .pre .0) (s .pre .1 .0) (s .pre .1 .1) (first .last .0) (first .last .1 .0) (first .kept .0 ∙ length-take-le _ _ (s .pre .1 .1) ∙ sym (first .kept .1 .0 ∙ length-take-le _ _ (fits s))) (first .ensures) _ (at-turn2 .turn2 .ensures)
 
 pub bring-spec : {M : Type 1} → statement M
 bring-spec =

@@ -66,7 +66,9 @@ loop-less : tie.Need-loop-less Inv-loop μ-loop
 loop-less c = search needs
 
 loop-again : tie.Need-loop-again Inv-loop μ-loop
-loop-again c = let l = c .before .before .before .before in turning-on (l .before .before .pre .0) (l .before .loop .inv) (l .loop-test .taken)
+loop-again c =
+    let at-in-loop : tie.In-loop Inv-loop μ-loop = search in
+    let l = at-in-loop in turning-on (l .before .before .pre .0) (l .before .loop .inv) (l .loop-test .taken)
 
 same-length : tie.Need-same-length Inv-loop μ-loop
 same-length c = c .before .loop .inv .codes-keep

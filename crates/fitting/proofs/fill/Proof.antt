@@ -19,7 +19,8 @@ use Rattle.fitting.proofs.fill.Tie as tie
 -- what is known where room exceeds w and w is not above 0
 zero-w : (c : tie.Then2) → let a = c .before .before .before .before .args in (count (a .w) ≡ 0) × (leZ (a .room) (a .w) ≡ false)
 zero-w c =
-    let a = c .before .before .before .before in (
+    let s : tie.Start = search in
+    let a = s in (
       sym (rw (back (a .fits .w)) at (c .before .before .count-of2 .ensures)) ∙ c .if2 .taken,
       rw (back (a .fits .room), back (a .fits .w)) at (c .before .if1 .left),
     )
@@ -27,7 +28,8 @@ zero-w c =
 -- and where w is above 0
 pos-w : (c : tie.Else2) → let a = c .before .before .before .before .args in Above (a .room) (a .w) (c .before .before .before .count-of .result) (c .before .before .count-of2 .result)
 pos-w c =
-    let a = c .before .before .before .before in
+    let s : tie.Start = search in
+    let a = s in
     both-pos _ _ _ _ (rw (back (a .fits .room)) at (c .before .before .before .count-of .ensures))
     (rw (back (a .fits .w)) at (c .before .before .count-of2 .ensures))
     (rw (back (a .fits .room), back (a .fits .w)) at (c .before .if1 .left)) (c .if2 .left)
@@ -43,7 +45,8 @@ loose-requires c κs = search needs
 
 returns : tie.Need-returns
 returns c =
-    let a = c .before .before .before .before in
+    let s : tie.Start = search in
+    let a = s in
     let f = a .fits .room in
     loose-lent (a .args .room) (a .args .w) (a .args .tiles) 0 f (c .loose .ensures) (fit-le _ _ _ (rw (back f, back (a .fits .w)) at (c .before .if1 .taken)))
 
@@ -52,7 +55,8 @@ loose-requires-2 c κs = search needs
 
 returns-2 : tie.Need-returns-2
 returns-2 c =
-    let a = c .before .before .before .before .before .before in
+    let s : tie.Start = search in
+    let a = s in
     let k = zero-w (c .before .before) in
     loose-lent (a .args .room) (a .args .w) (a .args .tiles) 0 (a .fits .room) (c .loose2 .ensures) (rw (c .before .if3 .taken) (fit-none _ _ (k .0) (k .1)))
 
@@ -61,7 +65,8 @@ loose-requires-3 c κs = search needs
 
 returns-3 : tie.Need-returns-3
 returns-3 c =
-    let a = c .before .before .before .before .before .before in
+    let s : tie.Start = search in
+    let a = s in
     let k = zero-w (c .before .before) in
     loose-lent (a .args .room) (a .args .w) (a .args .tiles) 1 (a .fits .room) (c .loose3 .ensures) (fit-one _ _ (k .0) (k .1) _ (omega (arith, c .before .if3 .left)))
 
@@ -79,7 +84,8 @@ loose-requires-4 c κs = search needs
 
 returns-4 : tie.Need-returns-4
 returns-4 c =
-    let a = c .before .before .before .before .before .before in
+    let s : tie.Start = search in
+    let a = s in
     let k = pos-w (c .before .before) in
     loose-lent (a .args .room) (a .args .w) (a .args .tiles) _ (a .fits .room) (c .loose4 .ensures)
     (rw (k .room-is, k .w-is) (fit-even _ _ (k .some) (k .less) _ (c .before .if4 .taken)))
@@ -92,7 +98,8 @@ loose-requires-5 c κs = search needs
 
 returns-5 : tie.Need-returns-5
 returns-5 c =
-    let a = c .before .before .before .before .before .before .before in
+    let s : tie.Start = search in
+    let a = s in
     let k = pos-w (c .before .before .before) in
     loose-lent (a .args .room) (a .args .w) (a .args .tiles) _ (a .fits .room) (c .loose5 .ensures)
     (rw (k .room-is, k .w-is, c .before .if5 .taken) (fit-bare _ _ (k .some) (k .less)))
@@ -131,8 +138,9 @@ cast-t15 c =
 
 returns-6 : tie.Need-returns-6
 returns-6 c =
+    let s : tie.Start = search in
     let k = pos-w (c .before .before) in
-    let a = c .before .before .before .before .before .before in
+    let a = s in
     tight-back (a .args .room) (a .args .w) (a .args .tiles) _ _ (narrow (k .w-is) (a .fits .w) _ _)
     (rw (k .room-is, k .w-is) (fit-left _ _ (k .some) (k .less) _ (omega (arith, c .if5 .left)) (omega (arith, c .before .if4 .left))))
 

@@ -50,9 +50,11 @@ loop-less c = search needs
 
 loop-again : tie.Need-loop-again Inv-loop μ-loop
 loop-again c =
-    let s = c .before .before .before .before in
+    let start : tie.Start Inv-loop μ-loop = search in
+    let at-in-loop : tie.In-loop Inv-loop μ-loop = search in
+    let s = at-in-loop in
     let l = s .before .loop in
-    let a = s .before .before .before .before .before .args in (
+    let a = start .args in (
       search needs,
       simp length-set (l .inv .1),
       l .inv .2 ∙ masks-turn (a .features .now) (a .base .now) (a .actions .now) (l .masks) (l .i) (search needs) (l .inv .1) _ (c .mask-of .ensures ∙ ap (λ (x : Action). mask (a .features .now) (getD (a .base .now) (l .i) 0) (x .0)) (c .before .new .ensures)) (search needs),
@@ -63,8 +65,9 @@ same-length c = search needs
 
 returns : tie.Need-returns Inv-loop μ-loop
 returns c =
+    let s : tie.Start Inv-loop μ-loop = search in
     let l = c .before .loop in
-    let a = c .before .before .before .before .before .args in
+    let a = s .args in
     sym (l .inv .2 ∙ masks-end (a .features .now) (a .base .now) (a .actions .now) (l .masks) (l .i) (search needs) (l .inv .1) (search needs))
 
 pub fill-spec : {M : Type 1} → statement M

@@ -52,9 +52,10 @@ loop-less c = search needs
 
 loop-again : tie.Need-loop-again Inv-loop μ-loop
 loop-again c =
+    let start : tie.Start Inv-loop μ-loop = search in
     let s = c .before .before .before in
     let l = s .before .before .loop in
-    let cs = s .before .before .before .before .before .args .codes .now in (
+    let cs = start .args .codes .now in (
       search needs,
       simp length-set (l .inv .1),
       l .inv .2 ∙ settled-takes cs (l .actions) (l .i) (l .inv .1) (sym (c .before .before .is-selector .ensures) ∙ c .before .if1 .taken) (search needs),
@@ -68,9 +69,10 @@ loop-less-2 c = search needs
 
 loop-again-2 : tie.Need-loop-again-2 Inv-loop μ-loop
 loop-again-2 c =
+    let start : tie.Start Inv-loop μ-loop = search in
     let s = c .before .before in
     let l = s .before .before .loop in
-    let cs = s .before .before .before .before .before .args .codes .now in (
+    let cs = start .args .codes .now in (
       search needs,
       l .inv .1,
       l .inv .2 ∙ settled-keeps cs (l .actions) (l .i) (l .inv .1) (sym (c .before .is-selector .ensures) ∙ c .if1 .left) (search needs),
@@ -81,8 +83,9 @@ same-length c = search needs
 
 returns : tie.Need-returns Inv-loop μ-loop
 returns c =
+    let s : tie.Start Inv-loop μ-loop = search in
     let l = c .before .loop in
-    let cs = c .before .before .before .before .args .codes .now in
+    let cs = s .args .codes .now in
     sym (l .inv .2 ∙ settled-ends cs (l .actions) (l .i) (l .inv .1) (search needs))
 
 pub mongolian-variation-selectors-spec : {M : Type 1} → statement M

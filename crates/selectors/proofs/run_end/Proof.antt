@@ -30,8 +30,10 @@ is-selector-requires c κs = search needs
 
 returns : tie.Need-returns Inv-loop μ-loop
 returns c =
-    let l = c .before .before .before .before .loop in
-    let cs = c .before .before .before .before .before .before .args .codes .now in
+    let s : tie.Start Inv-loop μ-loop = search in
+    let at-loop : tie.At-loop Inv-loop μ-loop = search in
+    let l = at-loop .loop in
+    let cs = s .args .codes .now in
     sym (l .inv .1 ∙ run-stops cs (l .i) (c .before .before .before .loop-test .taken) (sym (c .before .is-selector .ensures) ∙ not-true _ (c .if1 .taken)))
 
 add-i : tie.Need-add-i Inv-loop μ-loop
@@ -42,8 +44,10 @@ loop-less c = search needs
 
 loop-again : tie.Need-loop-again Inv-loop μ-loop
 loop-again c =
-    let l = c .before .before .before .before .loop in
-    let cs = c .before .before .before .before .before .before .args .codes .now in
+    let s : tie.Start Inv-loop μ-loop = search in
+    let at-loop : tie.At-loop Inv-loop μ-loop = search in
+    let l = at-loop .loop in
+    let cs = s .args .codes .now in
     (search needs, l .inv .1 ∙ run-goes cs (l .i) (c .before .before .before .loop-test .taken) (sym (c .before .is-selector .ensures) ∙ not-false _ (c .if1 .left)))
 
 returns-2 : tie.Need-returns-2 Inv-loop μ-loop

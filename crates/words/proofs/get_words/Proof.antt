@@ -36,7 +36,9 @@ mul-column : tie.Need-mul-column Inv-loop μ-loop
 mul-column c = omega (arith, c .before .loop-test .taken, c .before .before .loop .inv .0, c .before .before .before .before .before .pre .1)
 
 slice-write-column : tie.Need-slice-write-column Inv-loop μ-loop
-slice-write-column c = omega (arith, c .before .loop-test .taken, c .before .before .loop .inv .0, c .before .before .loop .inv .1, c .before .before .before .before .before .pre .1)
+slice-write-column c =
+    let s : tie.Start Inv-loop μ-loop = search in
+    omega (arith, c .before .loop-test .taken, c .before .before .loop .inv .0, c .before .before .loop .inv .1, s .pre .1)
 
 loop-less : tie.Need-loop-less Inv-loop μ-loop
 loop-less c = omega (arith, c .before .loop-test .taken)

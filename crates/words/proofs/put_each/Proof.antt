@@ -36,8 +36,9 @@ loop-less c = omega arith
 
 loop-again : tie.Need-loop-again Inv-loop μ-loop
 loop-again c =
+    let at-loop : tie.At-loop Inv-loop μ-loop = search in
     let p = c .before .before in
-    let l = p .before .before .before .before in
+    let l = at-loop in
     (omega arith, next (l .before .before .before .args .words .now) (l .loop .i) (omega arith) (l .loop .inv .1) (p .put-u16 .ensures))
 
 same-length : tie.Need-same-length Inv-loop μ-loop

@@ -85,7 +85,8 @@ same-length c = search needs
 
 returns : tie.Need-returns
 returns c =
-    let b = c .before .before .before .before .before .before .before .before .before .before .before .before .before .before .before in
+    let s : tie.Start = search in
+    let b = s in
     rw (← eight-words (b .args .words .now) (b .args .i) (b .pre .0)) (c .before .before .put-each .ensures)
 
 pub put-eight-spec : {M : Type 1} → statement M

@@ -71,10 +71,14 @@ put-each-requires c κs =
     omega (arith, r .room, r .place, r .same)
 
 same-length : tie.Need-same-length Inv-loop μ-loop
-same-length c = then (tail (c .before .before .before .before .before)) (c .before .before .put-each .ensures) .same
+same-length c =
+    let at-loop : tie.After-loop Inv-loop μ-loop = search in
+    then (tail (at-loop)) (c .before .before .put-each .ensures) .same
 
 returns : tie.Need-returns Inv-loop μ-loop
-returns c = then (tail (c .before .before .before .before .before)) (c .before .before .put-each .ensures)
+returns c =
+    let at-loop : tie.After-loop Inv-loop μ-loop = search in
+    then (tail (at-loop)) (c .before .before .put-each .ensures)
 
 pub put-words-spec : {M : Type 1} → statement M
 put-words-spec =

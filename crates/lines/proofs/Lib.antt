@@ -1,3 +1,4 @@
 -- The modules that belong to no one function.
 -- Assumes nothing.
 pub mod LineLaws
+pub mod LentLaws

@@ -13,26 +13,23 @@ use Rattle.lines.specs.Held.{Setting, Line}
 use Rattle.lines.specs.Joined.{refusal, frameOf, joinedLine, typesOf}
 use Rattle.lines.proofs.LineLaws as LineLaws
 use Rattle.lines.proofs.LineLaws.{refusal-joined}
-use Rattle.refusals.proofs.LeftLaws.{same-left, left-number, left-stays, left-smallest, left-accepted}
-use Rattle.replacing.specs.Replaced.{Request, changed, replacedLine, replaceRows, replaceRefusal, replaceAfter, Replacing}
+use Rattle.refusals.proofs.LeftLaws.{left-number, left-accepted}
+use Rattle.refusals.proofs.PromiseLaws.{kept}
+use Rattle.replacing.specs.Replaced.{Request, changed, replacedLine, replaceRefusal, Replacing}
 use Rattle.renewing.proofs.RenewLaws.{length-renewed}
 use Rattle.replacing.proofs.AllowedLaws.{Allowed, allowed, left-replaced, length-letters, joining-replaced}
 use Rattle.replacing.proofs.LocalLaws.{length-changed, types-elsewhere, marks-elsewhere}
 use Rattle.replacing.proofs.CurrentLaws.{replaced-else, replaced-fresh, replaced-current}
 use Rattle.replacing.proofs.OrderLaws.{refusal-behind, left-order}
-use Rattle.demands.specs.Replacing.{OneAnswer, RefusedStays, SmallestNumber, Current, FreshCurrent, StaysCurrent, AfterAll, AlwaysCurrent, JoinsToItself, NamedAlike, AltersNear, GetsFresh, ChangesLetter, NoOther, EitherOrder}
+use Rattle.demands.specs.Replacing.{Promised, Current, FreshCurrent, StaysCurrent, AfterAll, AlwaysCurrent, JoinsToItself, NamedAlike, AltersNear, GetsFresh, ChangesLetter, NoOther, EitherOrder}
 use Rattle.demands.proofs.NamedLaws.{named-touches, touches-named, named-own}
 use Rattle.demands.proofs.WholeLaws.{whole}
 
-pub one-answer : OneAnswer
-one-answer s q l r u m n = same-left r u m n (replaceAfter s q l)
-
-pub refused-stays : RefusedStays
-refused-stays s q l r m = left-stays (replaceRefusal s q l) l (replacedLine (frameOf s) q l) (said r) m
-
-pub smallest-number : SmallestNumber
+pub promised : Promised
 unfolding replaceRefusal
-smallest-number s q l r m = left-smallest (replaceRows s q l) refl l (replacedLine (frameOf s) q l) (said r) m
+promised =
+    kept {told = λ _ m. m} {old = λ l. l} {new = λ q. replacedLine (frameOf (q .0)) (q .1)}
+    (record { says = λ q l r m x. x; rising = λ q l. refl; fixed = λ r u m n e f. (same-said r u e, f); idle = λ r l m e. (e, tt) })
 
 pub fresh-current : FreshCurrent
 fresh-current s l r m e z = let j = left-accepted (refusal s l) l (joinedLine s l) (said r) m e z in rw j refl

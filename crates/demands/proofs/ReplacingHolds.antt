@@ -11,8 +11,7 @@ use Rattle.refusals.specs.declared.Verdict.{Verdict}
 use Rattle.refusals.proofs.VerdictLaws.{same-said}
 use Rattle.lines.specs.Held.{Setting, Line}
 use Rattle.lines.specs.Joined.{refusal, frameOf, joinedLine, typesOf}
-use Rattle.lines.proofs.LineLaws as LineLaws
-use Rattle.lines.proofs.LineLaws.{refusal-joined}
+use Rattle.lines.proofs.LineLaws.{accepted, refusal-joined}
 use Rattle.refusals.proofs.LeftLaws.{left-number, left-accepted}
 use Rattle.refusals.proofs.PromiseLaws.{kept}
 use Rattle.replacing.specs.Replaced.{Request, changed, replacedLine, replaceRefusal, Replacing}
@@ -56,14 +55,14 @@ pub joins-to-itself : JoinsToItself
 joins-to-itself s l r k qs m e z on u n f =
     let none : refusal s l ≡ 0 = sym (left-number (refusal s l) l (joinedLine s l) (said r) k e) ∙ z in
     let fresh : k ≡ joinedLine s l = left-accepted (refusal s l) l (joinedLine s l) (said r) k e z in
-    let still : refusal s m ≡ 0 = all-rejoined s qs k m on ∙ ap (refusal s) fresh ∙ refusal-joined s l (LineLaws.accepted s l none) ∙ none in
+    let still : refusal s m ≡ 0 = all-rejoined s qs k m on ∙ ap (refusal s) fresh ∙ refusal-joined s l (accepted s l none) ∙ none in
     let number : said u ≡ 0 = left-number (refusal s m) m (joinedLine s m) (said u) n f ∙ still in
     (number, left-accepted (refusal s m) m (joinedLine s m) (said u) n f number ∙ sym (always-current s l r k qs m e z on))
 
 -- an accepted request, and the line that it leaves
 module _ (s : Setting) (q : Request) (l : Line) (r : Verdict) (m : Line) (e : Replacing s q l r m) (z : said r ≡ 0) where
-  accepted : Allowed s q l
-  accepted = allowed s q l (sym (left-number (replaceRefusal s q l) l (replacedLine (frameOf s) q l) (said r) m e) ∙ z)
+  unrefused : Allowed s q l
+  unrefused = allowed s q l (sym (left-number (replaceRefusal s q l) l (replacedLine (frameOf s) q l) (said r) m e) ∙ z)
 
   left : m ≡ replacedLine (frameOf s) q l
   left = left-accepted (replaceRefusal s q l) l (replacedLine (frameOf s) q l) (said r) m e z
@@ -76,7 +75,7 @@ changes-letter s q l r m e z =
 pub named-alike : NamedAlike
 named-alike s q l r m e z j =
     let f = frameOf s in
-    let a = accepted s q l r m e z in
+    let a = unrefused s q l r m e z in
     let old = typesOf (l .letters) in
     let new = changed q l in
     let long = length-changed f q l in
@@ -89,14 +88,14 @@ named-alike s q l r m e z j =
 
 pub alters-near : AltersNear
 alters-near s q l r m e z j =
-    rw (left s q l r m e z) (λ other. replaced-else s q l (accepted s q l r m e z) j (λ h t. other (touches-named (s .mongolian) _ _ (q .place) j h t)))
+    rw (left s q l r m e z) (λ other. replaced-else s q l (unrefused s q l r m e z) j (λ h t. other (touches-named (s .mongolian) _ _ (q .place) j h t)))
 
 pub gets-fresh : GetsFresh
 gets-fresh s q l r m e z j =
-    rw (left s q l r m e z) (λ n. replaced-fresh s q l (accepted s q l r m e z) j (named-touches (s .mongolian) _ _ (q .place) n))
+    rw (left s q l r m e z) (λ n. replaced-fresh s q l (unrefused s q l r m e z) j (named-touches (s .mongolian) _ _ (q .place) n))
 
 pub no-other : NoOther
-no-other s a l r m e z k new kept fresh = whole s a l (accepted s a l r m e z) k new kept fresh ∙ sym (left s a l r m e z)
+no-other s a l r m e z k new kept fresh = whole s a l (unrefused s a l r m e z) k new kept fresh ∙ sym (left s a l r m e z)
 
 pub either-order : EitherOrder
 either-order s p q l d r u k m e f u′ r′ k′ m′ e′ f′ =

@@ -31,7 +31,7 @@ use Rattle.drafts.proofs.EntryLaws.{all-append}
 use Rattle.drafts.proofs.RoomLaws.{few-allowed}
 use Rattle.windows.specs.Windows.{signed}
 use Rattle.fallback.specs.Plan.{Inputs, unicode, plan}
-use Rattle.fallback.specs.Planned.{even as together, short}
+use Rattle.fallback.specs.Planned.{even, short}
 use Rattle.assurance.specs.Origins.{Origin, lent, tables, origins, rulesOf, From, Made, end, used, skipped}
 use Rattle.assurance.specs.Planning.{total}
 use Rattle.assurance.specs.Lookups.{longest, mostGlyphs}
@@ -109,13 +109,13 @@ module _ (o : Origin) (q : Ready o) where
   few : length (ligatures rs) ≤ ruleLimit
   few = omega (arith, length-map rs (λ (r : Rule). r .ligature), length-sorted first (o .rules), q .few)
 
-  even : length (flat rs) ≡ length (ligatures rs) * n
-  even = length-flat n rs (wide-sound n rs sound) ∙ ap (λ (k : ℕ). k * n) (sym (length-map rs (λ (r : Rule). r .ligature)))
+  columns-even : length (flat rs) ≡ length (ligatures rs) * n
+  columns-even = length-flat n rs (wide-sound n rs sound) ∙ ap (λ (k : ℕ). k * n) (sym (length-map rs (λ (r : Rule). r .ligature)))
 
   written : Allowed (madeOf o .lookup) (most (o .kind))
   written =
       allowed (madeOf o .lookup) (most (o .kind))
-      (few-allowed (o .flags) (q .flag) (flat rs) (ligatures rs) (fits-flat n rs sound) (fits-ligatures n rs sound) few (o .kind) (q .named) even (most (o .kind)) (omega arith))
+      (few-allowed (o .flags) (q .flag) (flat rs) (ligatures rs) (fits-flat n rs sound) (fits-ligatures n rs sound) few (o .kind) (q .named) columns-even (most (o .kind)) (omega arith))
 
   made-from : From o (madeOf o)
   made-from =
@@ -129,7 +129,7 @@ module _ (o : Origin) (q : Ready o) where
         readable = record { even = written .even; named = written .in-range; fit = written .small; up = ap (rising 0) (firsts-listed (o .kind) rs sound) ∙ sorted-stable first (o .rules) .ordered };
         short = omega (arith, written .enough, b .0);
         same = same-read (madeOf o .lookup) (λ z. d (sym (length-map rs (λ (r : Rule). r .ligature)) ∙ z));
-        glyphs = omega (arith, even, mul-le-mul-right n few, b .1);
+        glyphs = omega (arith, columns-even, mul-le-mul-right n few, b .1);
         substitutes = few;
         origin = (o, m, made-from);
       }
@@ -188,7 +188,7 @@ kept-size [] q = omega arith
 kept-size (o ∷ os) q =
     omega (arith, ap length (all-append (entryOf o) (kept os)), length-append (allBytes (entryOf o)) (allBytes (kept os)), entry-size o (q .0), kept-size os (q .1))
 
-pub plan-size : (i : Inputs) → together i ≡ true → short i ≡ true → length (allBytes (plan i)) ≤ longestPlan
+pub plan-size : (i : Inputs) → even i ≡ true → short i ≡ true → length (allBytes (plan i)) ≤ longestPlan
 plan-size i e s = rw plan-kept (omega (arith, kept-size (origins i) (origins-ready i e s), go (eqb (length (unicode i)) 0) (signed (i .font))))
   where
     go : (t u : Bool) → mostOf (cond t (cond u (tables (i .masks)) []) (lent i)) ≤ longestPlan

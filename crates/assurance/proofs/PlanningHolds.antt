@@ -15,14 +15,15 @@ use Rattle.laws.proofs.TestLaws.{both}
 use Rattle.refusals.specs.declared.Verdict.{Verdict}
 use Rattle.refusals.specs.Numbers.{said}
 use Rattle.refusals.proofs.VerdictLaws.{same-said}
-use Rattle.refusals.proofs.LeftLaws.{alike, left-number, left-stays, left-accepted, left-smallest}
-use Rattle.drafts.specs.Entries.{Entry, sizeOf, allBytes, seven}
+use Rattle.refusals.proofs.LeftLaws.{left-number, left-stays, left-accepted}
+use Rattle.refusals.proofs.PromiseLaws.{kept}
+use Rattle.drafts.specs.Entries.{Entry, sizeOf, allBytes}
 use Rattle.windows.specs.Windows.{signed, windows}
 use Rattle.fallback.specs.declared.FallbackPlan.{FallbackPlan}
 use Rattle.fallback.specs.Plan.{Inputs, unicode, plan}
-use Rattle.fallback.specs.Planned.{Outcome, outcome, nothing, made, lentRows, planRows, planRefusal, planAfter, Planning}
+use Rattle.fallback.specs.Planned.{Outcome, outcome, nothing, made, lentRows, planRefusal, Planning}
 use Rattle.fallback.specs.Switch.{fallbackOn}
-use Rattle.assurance.specs.Planning.{OneAnswer, RefusedStays, SmallestNumber, Says, AcceptedPlans, AtMostSeven, total, PastTheAnswer, UnicodeFirst, WindowsSecond, EmptyOtherwise, SwitchedOn}
+use Rattle.assurance.specs.Planning.{Promised, Says, AcceptedPlans, AtMostSeven, total, PastTheAnswer, UnicodeFirst, WindowsSecond, EmptyOtherwise, SwitchedOn}
 use Rattle.assurance.proofs.OriginLaws.{plan-few}
 use Rattle.assurance.proofs.PlanLaws.{Passed, passed, total-lengths, length-padded}
 
@@ -35,14 +36,16 @@ same-plan r u left other e f =
     ap₂ (λ (v : Verdict) (n : ℕ). record { verdict = v; count = n; masks = r .masks; lengths = r .lengths }) (same-said (r .verdict) (u .verdict) e) (ap (λ (o : Outcome). o .count) f)
     ∙ ap₂ (λ (m l : List ℕ). record { verdict = u .verdict; count = u .count; masks = m; lengths = l }) (ap (λ (o : Outcome). o .masks) f) (ap (λ (o : Outcome). o .lengths) f)
 
-pub one-answer : OneAnswer
-one-answer i area r u left other x y =
-    let g = alike (said (r .verdict)) (said (u .verdict)) (saidOf r left) (saidOf u other) (planAfter i area) x y in
-    (same-plan r u left other (g .0) (g .1), ap (λ (o : Outcome). o .area) (g .1))
-
-pub smallest-number : SmallestNumber
+pub promised : Promised
 unfolding planRefusal
-smallest-number i area r left = left-smallest (planRows i (length area)) refl (nothing area) (made (plan i) area) (said (r .verdict)) (saidOf r left)
+promised =
+    kept {told = saidOf} {old = nothing} {new = λ i. made (plan i)}
+    (record {
+      says = λ i area r left x. x;
+      rising = λ i area. refl;
+      fixed = λ r u left other n o. (same-plan r u left other n o, ap (λ (x : Outcome). x .area) o);
+      idle = λ r area left o. (ap (λ (x : Outcome). x .area) o, (ap (λ (x : Outcome). x .count) o, ap (λ (x : Outcome). x .masks) o, ap (λ (x : Outcome). x .lengths) o));
+    })
 
 -- ---- what the call leaves if it is refused, and if it is not
 says-made : (entries : List Entry) (area : List ℕ) (r : FallbackPlan) (left : List ℕ) → saidOf r left ≡ made entries area → Says entries r left
@@ -64,11 +67,6 @@ module _ (i : Inputs) (area : List ℕ) (r : FallbackPlan) (left : List ℕ) (x 
   done : said (r .verdict) ≡ 0 → saidOf r left ≡ made (plan i) area
   done = left-accepted (planRefusal i (length area)) (nothing area) (made (plan i) area) (said (r .verdict)) (saidOf r left) x
 
-  stays : (said (r .verdict) ≡ 0 → ⊥) → (left ≡ area) × (r .count ≡ 0) × (r .masks ≡ seven) × (r .lengths ≡ seven)
-  stays d =
-      let g = unaltered d in
-      (ap (λ (o : Outcome). o .area) g, ap (λ (o : Outcome). o .count) g, ap (λ (o : Outcome). o .masks) g, ap (λ (o : Outcome). o .lengths) g)
-
   pub plans : said (r .verdict) ≡ 0 → Says (plan i) r left
   plans z = says-made (plan i) area r left (done z)
 
@@ -77,9 +75,6 @@ module _ (i : Inputs) (area : List ℕ) (r : FallbackPlan) (left : List ℕ) (x 
 
   pub area-left : said (r .verdict) ≡ 0 → left ≡ allBytes (plan i) ++ drop (length (allBytes (plan i))) area
   area-left z = ap (λ (o : Outcome). o .area) (done z)
-
-pub refused-stays : RefusedStays
-refused-stays = stays
 
 pub accepted-plans : AcceptedPlans
 accepted-plans = plans
@@ -103,8 +98,8 @@ module _ (i : Inputs) (area : List ℕ) (r : FallbackPlan) (left : List ℕ) (x 
 
       off : (said (r .verdict) ≡ 0 → ⊥) → (r .count ≤ 7) × (length (r .masks) ≡ 7) × (length (r .lengths) ≡ 7)
       off d =
-          let s = stays i area r left x d in
-          (omega (arith, s .1), ap length (s .2), ap length (s .3))
+          let s = promised .refused-stays i area r left x d .1 in
+          (omega (arith, s .0), ap length (s .1), ap length (s .2))
 
   past : Past (total (r .lengths)) area left
   past = either-way _ on off
@@ -115,7 +110,7 @@ module _ (i : Inputs) (area : List ℕ) (r : FallbackPlan) (left : List ℕ) (x 
           (ap total (plans i area r left x z .measured) ∙ total-lengths (plan i))
 
       off : (said (r .verdict) ≡ 0 → ⊥) → Past (total (r .lengths)) area left
-      off d = rw (stays i area r left x d .0) (past-same (total (r .lengths)) area)
+      off d = rw (promised .refused-stays i area r left x d .0) (past-same (total (r .lengths)) area)
 
 pub at-most-seven : AtMostSeven
 at-most-seven = few-said

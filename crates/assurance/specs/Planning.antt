@@ -1,4 +1,4 @@
--- What the call that makes a plan promises, of every input, by its statement (`Planning` of crate fallback): `OneAnswer`, `RefusedStays`, `SmallestNumber`; `Says`, `AcceptedPlans` what an accepted call answers, `AtMostSeven`; `total`, `PastTheAnswer`; `UnicodeFirst`, `WindowsSecond`, `EmptyOtherwise` which lookups are planned. Of the call that says whether there is to be a plan (`fallbackOn`): `SwitchedOn`.
+-- What the call that makes a plan promises, of every input, by its statement (`Planning` of crate fallback): `Promised` what every call promises (`Kept` of crate refusals); `Says`, `AcceptedPlans` what an accepted call answers, `AtMostSeven`; `total`, `PastTheAnswer`; `UnicodeFirst`, `WindowsSecond`, `EmptyOtherwise` which lookups are planned. Of the call that says whether there is to be a plan (`fallbackOn`): `SwitchedOn`.
 -- Assumes nothing.
 use mathlib.Core.Path.{_≡_}
 use mathlib.Core.Bool.{Bool, true, false}
@@ -7,8 +7,9 @@ use mathlib.Core.List.{List, [], _∷_}
 use Prim.Native.Nat.{ℕ, _+_, _<_, _≤_}
 use lib.ListN.{length, take}
 use Rattle.laws.specs.Lists.{Past}
-use Rattle.laws.specs.Rows.{Has, first}
+use Rattle.laws.specs.Rows.{first}
 use Rattle.refusals.specs.Numbers.{said}
+use Rattle.refusals.specs.Promises.{Kept}
 use Rattle.drafts.specs.Entries.{Entry, allBytes, seven, masksOf, lengthsOf}
 use Rattle.windows.specs.Windows.{signed, windows}
 use Rattle.fallback.specs.declared.FallbackPlan.{FallbackPlan}
@@ -17,23 +18,9 @@ use Rattle.fallback.specs.Plan.{Inputs, unicode, plan}
 use Rattle.fallback.specs.Planned.{lentRows, planRows, Planning}
 use Rattle.fallback.specs.Switch.{fallbackOn}
 
--- Any two answers that the statement allows are equal, and so are the areas that they leave.
-abbrev pub OneAnswer : Type 0
-OneAnswer = (i : Inputs) (area : List ℕ) (r u : FallbackPlan) (left other : List ℕ) → Planning i area r left → Planning i area u other → (r ≡ u) × (left ≡ other)
-
--- A plan that is refused alters no byte, and zeros are answered.
-abbrev pub RefusedStays : Type 0
-RefusedStays =
-    (i : Inputs) (area : List ℕ) (r : FallbackPlan) (left : List ℕ) → Planning i area r left → (said (r .verdict) ≡ 0 → ⊥)
-    → (left ≡ area) × (r .count ≡ 0) × (r .masks ≡ seven) × (r .lengths ≡ seven)
-
--- Where several refusals apply, the smallest number is given: a number that is given is that of a row of the table that applies; and where a row
--- applies, a number is given, and no larger one. So a plan is made exactly when no row applies.
-abbrev pub SmallestNumber : Type 0
-SmallestNumber =
-    (i : Inputs) (area : List ℕ) (r : FallbackPlan) (left : List ℕ) → Planning i area r left
-    → ((said (r .verdict) ≡ 0 → ⊥) → Has (planRows i (length area)) (said (r .verdict)) true)
-    × ((n : ℕ) → Has (planRows i (length area)) n true → (0 < said (r .verdict)) × (said (r .verdict) ≤ n))
+-- What every call promises, of this one: one answer; a refusal alters no byte and answers zeros; the smallest number that applies is given.
+abbrev pub Promised : Type 0
+Promised = Kept Planning (λ r. said (r .verdict)) (λ i area. planRows i (length area)) (λ r _. (r .count ≡ 0) × (r .masks ≡ seven) × (r .lengths ≡ seven))
 
 -- ---- what an accepted call answers
 -- r says these entries, how many, their masks and their byte lengths, and the area begins with their bytes, one lookup behind the other

@@ -11,7 +11,9 @@ use lib.Dec.{eqb}
 use lib.ListN.{length, getD, take, drop}
 use Rattle.refusals.specs.declared.Verdict.{Verdict}
 use Rattle.refusals.specs.Numbers.{said}
-use Rattle.refusals.proofs.LeftLaws.{same-left, left-number, left-stays, left-smallest, left-accepted}
+use Rattle.refusals.proofs.LeftLaws.{left-number, left-accepted}
+use Rattle.refusals.proofs.PromiseLaws.{kept}
+use Rattle.refusals.proofs.VerdictLaws.{same-said}
 use Rattle.letters.specs.Types.{U}
 use Rattle.letters.specs.Actions.{isol, fina, fin2, fin3, medi, med2, init}
 use Rattle.shapes.specs.Joining.{form, latest, nearest, eachBetween}
@@ -23,21 +25,17 @@ use Rattle.selectors.proofs.SelectorLaws.{settled-first, settled-next}
 use Rattle.masks.specs.Masks.{mask}
 use Rattle.masks.proofs.MaskLaws.{length-masks, masks-at}
 use Rattle.lines.specs.Held.{Setting, Line}
-use Rattle.lines.specs.Joined.{typesOf, frameOf, freshActions, joinRows, refusal, joinedLine, joinAfter, Joining}
+use Rattle.lines.specs.Joined.{typesOf, frameOf, freshActions, refusal, joinedLine, Joining}
 use Rattle.lines.proofs.LineLaws.{Accepted, accepted, length-fresh}
 use Rattle.demands.specs.Neighbours.{text, placeIn, Between}
-use Rattle.demands.specs.Joining.{OneAnswer, RefusedStays, SmallestNumber, AcceptedJoins, WritesForms, Follows, SelectorsFollow, Joined, ByNeighbours, UnicodeCall, Local, featureOf, MaskOfAction}
+use Rattle.demands.specs.Joining.{Promised, AcceptedJoins, WritesForms, Follows, SelectorsFollow, Joined, ByNeighbours, UnicodeCall, Local, featureOf, MaskOfAction}
 use Rattle.demands.proofs.NeighbourLaws.{letters-of, member-selector, between-record, between-once, common-between}
 
-pub one-answer : OneAnswer
-one-answer s l r q m n = same-left r q m n (joinAfter s l)
-
-pub refused-stays : RefusedStays
-refused-stays s l r m = left-stays (refusal s l) l (joinedLine s l) (said r) m
-
-pub smallest-number : SmallestNumber
+pub promised : Promised
 unfolding refusal
-smallest-number s l r m = left-smallest (joinRows s l) refl l (joinedLine s l) (said r) m
+promised =
+    kept {told = λ _ m. m} {old = λ l. l} {new = joinedLine}
+    (record { says = λ s l r m x. x; rising = λ s l. refl; fixed = λ r u m n e f. (same-said r u e, f); idle = λ r l m e. (e, tt) })
 
 pub accepted-joins : AcceptedJoins
 accepted-joins s l r m = left-accepted (refusal s l) l (joinedLine s l) (said r) m

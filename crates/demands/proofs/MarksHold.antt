@@ -7,23 +7,19 @@ use native.Mathlib.Omega.{arith}
 use lib.Dec.{eqb}
 use lib.ListN.{length}
 use Rattle.refusals.proofs.VerdictLaws.{refused-number}
-use Rattle.refusals.proofs.LeftLaws.{alike, left-number, left-stays, left-smallest, left-accepted}
+use Rattle.refusals.proofs.LeftLaws.{left-number, left-accepted}
+use Rattle.refusals.proofs.PromiseLaws.{kept}
 use Rattle.marks.specs.declared.Answer.{Answer}
 use Rattle.marks.specs.declared.Answer.the-variants.{Reordered, Refused}
 use Rattle.marks.specs.declared.Merged.{Merged}
 use Rattle.marks.specs.declared.Merged.the-variants.{Nothing, One, Two}
 use Rattle.marks.specs.Passes.{reorderClasses, newClass}
-use Rattle.marks.specs.Reordered.{Request, Columns, Outcome, outcome, listed, part, newPart, reordered, rangesOf, reorderRows, reorderRefusal, numberSaid, rangesSaid, reorderAfter, Reordering}
+use Rattle.marks.specs.Reordered.{Request, Columns, Outcome, outcome, listed, part, newPart, reordered, rangesOf, reorderRefusal, numberSaid, rangesSaid, Reordering}
 use Rattle.marks.proofs.ReorderedLaws.{same-answer, Allowed, allowed, length-part, part-afterwards}
 use Rattle.marks.proofs.UtrLaws.{passes-utr53, passes-arranged, number-passes, plain-passes}
-use Rattle.demands.specs.Marks.{OneAnswer, RefusedStays, SmallestNumber, OnlyThePart, ByUtr53, Arranged, NothingLost, OthersStay, AtMostTwo, RangeOfEach, ChangesMerged}
+use Rattle.demands.specs.Marks.{Promised, OnlyThePart, ByUtr53, Arranged, NothingLost, OthersStay, AtMostTwo, RangeOfEach, ChangesMerged}
 use Rattle.demands.proofs.PartLaws.{outside-codes, outside-classes}
 use Rattle.demands.proofs.RangeLaws.{ranges-within, ranges-of-each, columns-outside}
-
-pub one-answer : OneAnswer
-one-answer q c r u d e x y =
-    let g = alike (numberSaid r) (numberSaid u) _ _ (reorderAfter q c) x y in
-    (same-answer r u (g .0) (ap (λ (o : Outcome). o .ranges) (g .1)), ap (λ (o : Outcome). o .columns) (g .1))
 
 -- what the call leaves if it is refused, and if it is not
 abbrev old : Columns → Outcome
@@ -32,15 +28,16 @@ old c = outcome [] c
 abbrev new : Request → Columns → Outcome
 new q c = outcome (rangesOf q c) (reordered q c)
 
-pub refused-stays : RefusedStays
-refused-stays q c r d x n =
-    let g = left-stays (reorderRefusal q c) (old c) (new q c) (numberSaid r) (outcome (rangesSaid r) d) x n in
-    (ap (λ (o : Outcome). o .columns) g, ap (λ (o : Outcome). o .ranges) g)
-
-pub smallest-number : SmallestNumber
+pub promised : Promised
 unfolding reorderRefusal
-smallest-number q c r d =
-    left-smallest (reorderRows q c) refl (old c) (new q c) (numberSaid r) (outcome (rangesSaid r) d)
+promised =
+    kept {told = λ r d. outcome (rangesSaid r) d} {old = old} {new = new}
+    (record {
+      says = λ q c r d x. x;
+      rising = λ q c. refl;
+      fixed = λ r u d e n o. (same-answer r u n (ap (λ (x : Outcome). x .ranges) o), ap (λ (x : Outcome). x .columns) o);
+      idle = λ r c d o. (ap (λ (x : Outcome). x .columns) o, ap (λ (x : Outcome). x .ranges) o);
+    })
 
 -- an accepted request: the columns, the ranges and the part afterwards
 module _ (q : Request) (c : Columns) (r : Answer) (d : Columns) (x : Reordering q c r d) (z : numberSaid r ≡ 0) where
@@ -91,4 +88,4 @@ pub changes-merged : ChangesMerged
 changes-merged q c (Reordered m) d x p h =
     let e = ranges-left q c (Reordered m) d x refl in
     rw (columns-left q c (Reordered m) d x refl) (columns-outside q c (accepted q c (Reordered m) d x refl) p (λ u. h (rw e u)))
-changes-merged q c (Refused k) d x p h = rw (refused-stays q c (Refused k) d x (refused-number k) .0) (refl, refl)
+changes-merged q c (Refused k) d x p h = rw (promised .refused-stays q c (Refused k) d x (refused-number k) .0) (refl, refl)

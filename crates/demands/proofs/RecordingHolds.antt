@@ -8,18 +8,26 @@ use native.Mathlib.Omega.{arith}
 use borrow.Author.Tests.{eqb-false, ne-eqb}
 use lib.Dec.{eqb}
 use lib.ListN.{length, getD}
-use Rattle.refusals.proofs.LeftLaws.{left-number, left-stays, left-smallest, left-accepted}
+use Rattle.refusals.proofs.LeftLaws.{left-number, left-accepted}
+use Rattle.refusals.proofs.PromiseLaws.{kept}
 use Rattle.letters.specs.Actions.{fixed, repeating}
 use Rattle.recording.specs.declared.Answer.{Answer}
 use Rattle.refusals.specs.Columns.{yes}
-use Rattle.recording.specs.Recorded.{Request, Outcome, outcome, some, tile, newAction, newActions, recorded, recordRows, recordRefusal, numberSaid, recordedSaid, Recording}
-use Rattle.recording.proofs.RecordedLaws as recorded-laws
-use Rattle.recording.proofs.RecordedLaws.{Allowed, allowed, recorded-masked, recorded-unmasked}
+use Rattle.recording.specs.Recorded.{Request, Outcome, outcome, some, tile, newAction, newActions, recorded, recordRefusal, numberSaid, recordedSaid, Recording}
+use Rattle.recording.proofs.RecordedLaws.{same-answer, Allowed, allowed, recorded-masked, recorded-unmasked}
 use Rattle.recording.proofs.ActionLaws.{none-multiplied}
-use Rattle.demands.specs.Recording.{OneAnswer, RefusedStays, SmallestNumber, OnlyMultiplied, ByParity, SaysWhether, NothingHappens}
+use Rattle.demands.specs.Recording.{Promised, OnlyMultiplied, ByParity, SaysWhether, NothingHappens}
 
-pub one-answer : OneAnswer
-one-answer = recorded-laws.one-answer
+pub promised : Promised
+unfolding recordRefusal
+promised =
+    kept {told = λ r left. outcome (recordedSaid r) left} {old = outcome false} {new = recorded}
+    (record {
+      says = λ q actions r left x. x;
+      rising = λ q actions. refl;
+      fixed = λ r u left other n o. (same-answer r u n (ap (λ (x : Outcome). x .recorded) o), ap (λ (x : Outcome). x .actions) o);
+      idle = λ r actions left o. (ap (λ (x : Outcome). x .actions) o, ap (λ (x : Outcome). x .recorded) o);
+    })
 
 -- ---- record by record
 new-action-plain : (ms cs acts : List ℕ) → length ms ≡ length cs → length ms ≡ length acts → (i : ℕ) → getD ms i 0 ≡ 0 → getD (newActions ms cs acts) i 0 ≡ getD acts i 0
@@ -68,11 +76,6 @@ module _ (q : Request) (actions : List ℕ) (r : Answer) (left : List ℕ) (x : 
   abbrev old : Outcome
   old = outcome false actions
 
-  stays : (numberSaid r ≡ 0 → ⊥) → (left ≡ actions) × (recordedSaid r ≡ false)
-  stays d =
-      let g = left-stays (recordRefusal q actions) old (recorded q actions) (numberSaid r) (outcome (recordedSaid r) left) x d in
-      (ap (λ (o : Outcome). o .actions) g, ap (λ (o : Outcome). o .recorded) g)
-
   module _ (z : numberSaid r ≡ 0) where
     accepted : Allowed q actions
     accepted = allowed q actions (sym (left-number (recordRefusal q actions) old (recorded q actions) (numberSaid r) (outcome (recordedSaid r) left) x) ∙ z)
@@ -91,14 +94,6 @@ module _ (q : Request) (actions : List ℕ) (r : Answer) (left : List ℕ) (x : 
         let g = done ∙ sym (recorded-masked q actions d refl refl) in
         (ap (λ (o : Outcome). o .recorded) g, ap (λ (o : Outcome). o .actions) g)
 
-pub refused-stays : RefusedStays
-refused-stays q actions r left x d = stays q actions r left x d
-
-pub smallest-number : SmallestNumber
-unfolding recordRefusal
-smallest-number q actions r left =
-    left-smallest (recordRows q actions) refl (outcome false actions) (recorded q actions) (numberSaid r) (outcome (recordedSaid r) left)
-
 -- a number is 0, or it is not
 by-zero : {A : Type 0} (n : ℕ) → (n ≡ 0 → A) → ((n ≡ 0 → ⊥) → A) → A
 by-zero zero f g = f refl
@@ -112,7 +107,7 @@ only-multiplied q actions r left x i p =
     by-zero (q .mask)
     (λ e. rw (unmasked q actions r left x z e .1))
     (λ d. rw (masked q actions r left x z d .1) (new-action-plain (q .multiplied) (q .components) actions (a .even) (a .even-actions) i p)))
-    (λ d. rw (stays q actions r left x d .0))
+    (λ d. rw (promised .refused-stays q actions r left x d .0))
 
 pub by-parity : ByParity
 by-parity q actions r left x z d i m =
@@ -138,4 +133,4 @@ nothing-happens q actions r left x n =
     (λ d.
     let g = masked q actions r left x z d in
     g .1 ∙ none-multiplied (q .multiplied) (q .components) actions (a .even) (a .even-actions) (sym (g .0) ∙ n)))
-    (λ d. stays q actions r left x d .0)
+    (λ d. promised .refused-stays q actions r left x d .0)

@@ -11,28 +11,24 @@ use Rattle.refusals.specs.declared.Verdict.{Verdict}
 use Rattle.refusals.proofs.VerdictLaws.{same-said}
 use Rattle.lines.specs.Held.{Setting, Line}
 use Rattle.lines.specs.Joined.{refusal, frameOf, joinedLine, typesOf}
-use Rattle.lines.proofs.LineLaws as LineLaws
-use Rattle.lines.proofs.LineLaws.{refusal-joined}
-use Rattle.refusals.proofs.LeftLaws.{same-left, left-number, left-stays, left-smallest, left-accepted}
-use Rattle.replacing.specs.Replaced.{Request, changed, replacedLine, replaceRows, replaceRefusal, replaceAfter, Replacing}
+use Rattle.lines.proofs.LineLaws.{accepted, refusal-joined}
+use Rattle.refusals.proofs.LeftLaws.{left-number, left-accepted}
+use Rattle.refusals.proofs.PromiseLaws.{kept}
+use Rattle.replacing.specs.Replaced.{Request, changed, replacedLine, replaceRefusal, Replacing}
 use Rattle.renewing.proofs.RenewLaws.{length-renewed}
 use Rattle.replacing.proofs.AllowedLaws.{Allowed, allowed, left-replaced, length-letters, joining-replaced}
 use Rattle.replacing.proofs.LocalLaws.{length-changed, types-elsewhere, marks-elsewhere}
 use Rattle.replacing.proofs.CurrentLaws.{replaced-else, replaced-fresh, replaced-current}
 use Rattle.replacing.proofs.OrderLaws.{refusal-behind, left-order}
-use Rattle.demands.specs.Replacing.{OneAnswer, RefusedStays, SmallestNumber, Current, FreshCurrent, StaysCurrent, AfterAll, AlwaysCurrent, JoinsToItself, NamedAlike, AltersNear, GetsFresh, ChangesLetter, NoOther, EitherOrder}
+use Rattle.demands.specs.Replacing.{Promised, Current, FreshCurrent, StaysCurrent, AfterAll, AlwaysCurrent, JoinsToItself, NamedAlike, AltersNear, GetsFresh, ChangesLetter, NoOther, EitherOrder}
 use Rattle.demands.proofs.NamedLaws.{named-touches, touches-named, named-own}
 use Rattle.demands.proofs.WholeLaws.{whole}
 
-pub one-answer : OneAnswer
-one-answer s q l r u m n = same-left r u m n (replaceAfter s q l)
-
-pub refused-stays : RefusedStays
-refused-stays s q l r m = left-stays (replaceRefusal s q l) l (replacedLine (frameOf s) q l) (said r) m
-
-pub smallest-number : SmallestNumber
+pub promised : Promised
 unfolding replaceRefusal
-smallest-number s q l r m = left-smallest (replaceRows s q l) refl l (replacedLine (frameOf s) q l) (said r) m
+promised =
+    kept {told = λ _ m. m} {old = λ l. l} {new = λ q. replacedLine (frameOf (q .0)) (q .1)}
+    (record { says = λ q l r m x. x; rising = λ q l. refl; fixed = λ r u m n e f. (same-said r u e, f); idle = λ r l m e. (e, tt) })
 
 pub fresh-current : FreshCurrent
 fresh-current s l r m e z = let j = left-accepted (refusal s l) l (joinedLine s l) (said r) m e z in rw j refl
@@ -59,14 +55,14 @@ pub joins-to-itself : JoinsToItself
 joins-to-itself s l r k qs m e z on u n f =
     let none : refusal s l ≡ 0 = sym (left-number (refusal s l) l (joinedLine s l) (said r) k e) ∙ z in
     let fresh : k ≡ joinedLine s l = left-accepted (refusal s l) l (joinedLine s l) (said r) k e z in
-    let still : refusal s m ≡ 0 = all-rejoined s qs k m on ∙ ap (refusal s) fresh ∙ refusal-joined s l (LineLaws.accepted s l none) ∙ none in
+    let still : refusal s m ≡ 0 = all-rejoined s qs k m on ∙ ap (refusal s) fresh ∙ refusal-joined s l (accepted s l none) ∙ none in
     let number : said u ≡ 0 = left-number (refusal s m) m (joinedLine s m) (said u) n f ∙ still in
     (number, left-accepted (refusal s m) m (joinedLine s m) (said u) n f number ∙ sym (always-current s l r k qs m e z on))
 
 -- an accepted request, and the line that it leaves
 module _ (s : Setting) (q : Request) (l : Line) (r : Verdict) (m : Line) (e : Replacing s q l r m) (z : said r ≡ 0) where
-  accepted : Allowed s q l
-  accepted = allowed s q l (sym (left-number (replaceRefusal s q l) l (replacedLine (frameOf s) q l) (said r) m e) ∙ z)
+  unrefused : Allowed s q l
+  unrefused = allowed s q l (sym (left-number (replaceRefusal s q l) l (replacedLine (frameOf s) q l) (said r) m e) ∙ z)
 
   left : m ≡ replacedLine (frameOf s) q l
   left = left-accepted (replaceRefusal s q l) l (replacedLine (frameOf s) q l) (said r) m e z
@@ -79,7 +75,7 @@ changes-letter s q l r m e z =
 pub named-alike : NamedAlike
 named-alike s q l r m e z j =
     let f = frameOf s in
-    let a = accepted s q l r m e z in
+    let a = unrefused s q l r m e z in
     let old = typesOf (l .letters) in
     let new = changed q l in
     let long = length-changed f q l in
@@ -92,14 +88,14 @@ named-alike s q l r m e z j =
 
 pub alters-near : AltersNear
 alters-near s q l r m e z j =
-    rw (left s q l r m e z) (λ other. replaced-else s q l (accepted s q l r m e z) j (λ h t. other (touches-named (s .mongolian) _ _ (q .place) j h t)))
+    rw (left s q l r m e z) (λ other. replaced-else s q l (unrefused s q l r m e z) j (λ h t. other (touches-named (s .mongolian) _ _ (q .place) j h t)))
 
 pub gets-fresh : GetsFresh
 gets-fresh s q l r m e z j =
-    rw (left s q l r m e z) (λ n. replaced-fresh s q l (accepted s q l r m e z) j (named-touches (s .mongolian) _ _ (q .place) n))
+    rw (left s q l r m e z) (λ n. replaced-fresh s q l (unrefused s q l r m e z) j (named-touches (s .mongolian) _ _ (q .place) n))
 
 pub no-other : NoOther
-no-other s a l r m e z k new kept fresh = whole s a l (accepted s a l r m e z) k new kept fresh ∙ sym (left s a l r m e z)
+no-other s a l r m e z k new kept fresh = whole s a l (unrefused s a l r m e z) k new kept fresh ∙ sym (left s a l r m e z)
 
 pub either-order : EitherOrder
 either-order s p q l d r u k m e f u′ r′ k′ m′ e′ f′ =

@@ -9,29 +9,28 @@ use native.Mathlib.Omega.{arith}
 use lib.ListN.{length, drop, length-map}
 use Rattle.laws.specs.Lists.{those, Past}
 use Rattle.laws.proofs.PartLaws.{past-same, past-front}
-use Rattle.refusals.proofs.LeftLaws.{left-smallest}
+use Rattle.refusals.proofs.PromiseLaws as promises
 use Rattle.runs.specs.Records.{Record, Columns, recordAt, lineOf, kept}
 use Rattle.runs.specs.Runs.{isTile, isPlain}
 use Rattle.runs.specs.Stretched.{inOrder, partOf, work, stretched, recordsAdded}
 use Rattle.runs.proofs.RecordLaws.{blank, getD-listed, length-line, length-work, spot-below, work-at}
 use Rattle.runs.proofs.StretchedLaws.{length-stretched}
 use Rattle.stretching.specs.declared.Answer.{Answer}
-use Rattle.stretching.specs.Stretching.{Request, outcome, stretchedLimit, newLine, laidOver, stretchRows, stretchRefusal, numberSaid, lengthSaid, Stretching}
-use Rattle.stretching.proofs.StretchingLaws as laws
-use Rattle.stretching.proofs.StretchingLaws.{Allowed, allowed, number-given, refused-left, accepted-left}
-use Rattle.demands.specs.Stretching.{OneAnswer, RefusedStays, SmallestNumber, PastTheAnswer, records, GivenAsItIs, CountAdded, OthersStay, CopiesKeep, FromTheLine, RunsHaveNoAdvance, TurnedRound}
+use Rattle.stretching.specs.Stretching.{Request, Outcome, outcome, newLine, laidOver, stretchRefusal, numberSaid, lengthSaid, Stretching}
+use Rattle.stretching.proofs.StretchingLaws.{same-answer, Allowed, allowed, number-given, accepted-left}
+use Rattle.demands.specs.Stretching.{Promised, PastTheAnswer, records, GivenAsItIs, CountAdded, OthersStay, CopiesKeep, FromTheLine, RunsHaveNoAdvance, TurnedRound}
 use Rattle.demands.proofs.WorkedLaws.{Every, every-at, every-more, Among, among-stretched, among-itself, plain-stretched, kept-stretched, Still, still-stretched, none-stretched, turned-stretched, records-glued}
 
-pub one-answer : OneAnswer
-one-answer = laws.one-answer
-
-pub refused-stays : RefusedStays
-refused-stays = refused-left
-
-pub smallest-number : SmallestNumber
+pub promised : Promised
 unfolding stretchRefusal
-smallest-number q output r left =
-    left-smallest (stretchRows stretchedLimit q output) refl (outcome 0 output) (outcome (length (newLine q)) (laidOver (newLine q) output)) (numberSaid r) (outcome (lengthSaid r) left)
+promised =
+    promises.kept {told = λ r left. outcome (lengthSaid r) left} {old = outcome 0} {new = λ q output. outcome (length (newLine q)) (laidOver (newLine q) output)}
+    (record {
+      says = λ q output r left x. x;
+      rising = λ q output. refl;
+      fixed = λ r u left other n o. (same-answer r u n (ap (λ (x : Outcome). x .count) o), ap (λ (x : Outcome). x .output) o);
+      idle = λ r output left o. (ap (λ (x : Outcome). x .output) o, ap (λ (x : Outcome). x .count) o);
+    })
 
 -- ---- the output
 -- a column over whose first places records are laid
@@ -51,7 +50,7 @@ module _ (q : Request) (output : Columns) (r : Answer) (left : Columns) (x : Str
 
   past-refused : (numberSaid r ≡ 0 → ⊥) → AllPast (lengthSaid r) left
   past-refused d =
-      rw (refused-left q output r left x d .0)
+      rw (promised .refused-stays q output r left x d .0)
       (past-same _ _, past-same _ _, past-same _ _, past-same _ _, past-same _ _, past-same _ _, past-same _ _)
 
   module _ (z : numberSaid r ≡ 0) where

@@ -15,10 +15,10 @@ use Rattle.replacing.specs.Replaced.{Request, replacedLine}
 use Rattle.replacing.proofs.LocalLaws.{TouchesIn, touched-touches, touches-touched, length-changed}
 use Rattle.replacing.proofs.AllowedLaws.{Allowed, length-letters}
 use Rattle.replacing.proofs.CurrentLaws.{replaced-else, replaced-fresh}
-use Rattle.demands.specs.Replacing.{NamedIn, Kept, Renewed, NewLetter}
+use Rattle.demands.specs.Replacing.{NamedIn, OthersKept, Renewed, NewLetter}
 use Rattle.demands.proofs.NamedLaws.{named-touches, touches-named}
 
-module _ (s : Setting) (a : Request) (l : Line) (ok : Allowed s a l) (k : Line) (new : NewLetter a l k) (kept : Kept s a l k) (fresh : Renewed s a k) where
+module _ (s : Setting) (a : Request) (l : Line) (ok : Allowed s a l) (k : Line) (new : NewLetter a l k) (kept : OthersKept s a l k) (fresh : Renewed s a k) where
   -- the line that the call leaves
   abbrev left : Line
   left = replacedLine (frameOf s) a l

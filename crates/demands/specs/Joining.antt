@@ -1,18 +1,18 @@
--- What joining promises, of every line, by the statement of `lines::join_line` (`Joining` of lines): `OneAnswer`, `RefusedStays`, `SmallestNumber`, `AcceptedJoins`; `OnlyForms`, `WritesForms` what an accepted call alters; `selectors`, `Follows`,
+-- What joining promises, of every line, by the statement of `lines::join_line` (`Joining` of lines): `Promised` what every call promises (`Kept` of crate refusals), `AcceptedJoins`; `OnlyForms`, `WritesForms` what an accepted call alters; `selectors`, `Follows`,
 -- `SelectorsFollow` the selectors of a Mongolian line; `Joined` a record that is joined by its neighbours, `ByNeighbours` by which rule, `UnicodeCall` that this is Unicode's where no letter has rules of its own, `Local` what an action depends on; `featureOf`,
 -- `MaskOfAction` the masks. Neighbours are found by places, in the line with its contexts (`text` of Neighbours).
 -- Assumes nothing.
 use mathlib.Core.Path.{_≡_}
 use mathlib.Core.Bool.{true, cond}
 use mathlib.Core.List.{List, [], _∷_}
-use Prim.Native.Nat.{ℕ, _-_, _<_, _≤_}
+use Prim.Native.Nat.{ℕ, _-_, _<_}
 use lib.Bits.{bitOr}
 use lib.Dec.{eqb}
 use lib.ListN.{length, getD}
-use Rattle.laws.specs.Rows.{Has}
 use Rattle.laws.specs.Lists.{member}
 use Rattle.refusals.specs.declared.Verdict.{Verdict}
 use Rattle.refusals.specs.Numbers.{said}
+use Rattle.refusals.specs.Promises.{Kept}
 use Rattle.letters.specs.Types.{Alaph, DalathRish}
 use Rattle.letters.specs.Actions.{isol, fina, fin2, fin3, medi, med2, init}
 use Rattle.shapes.specs.Joining.{form}
@@ -21,20 +21,9 @@ use Rattle.lines.specs.Held.{Setting, Line}
 use Rattle.lines.specs.Joined.{joinRows, joinedLine, Joining}
 use Rattle.demands.specs.Neighbours.{text, placeIn, Between}
 
--- Any two answers that the statement allows are equal, and so are the lines that they leave.
-abbrev pub OneAnswer : Type 0
-OneAnswer = (s : Setting) (l : Line) (r q : Verdict) (m n : Line) → Joining s l r m → Joining s l q n → (r ≡ q) × (m ≡ n)
-
--- A call that is refused alters nothing.
-abbrev pub RefusedStays : Type 0
-RefusedStays = (s : Setting) (l : Line) (r : Verdict) (m : Line) → Joining s l r m → (said r ≡ 0 → ⊥) → m ≡ l
-
--- Where several refusals apply, the smallest number is given: a number that is given is that of a row of the table that applies; and where a row
--- applies, a number is given, and no larger one. So a call is accepted exactly when no row applies.
-abbrev pub SmallestNumber : Type 0
-SmallestNumber =
-    (s : Setting) (l : Line) (r : Verdict) (m : Line) → Joining s l r m
-    → ((said r ≡ 0 → ⊥) → Has (joinRows s l) (said r) true) × ((n : ℕ) → Has (joinRows s l) n true → (0 < said r) × (said r ≤ n))
+-- What every call promises, of this one: one answer; a refusal alters nothing; the smallest number that applies is given.
+abbrev pub Promised : Type 0
+Promised = Kept Joining said joinRows (λ _ _. Unit)
 
 -- One that is accepted leaves the joined line.
 abbrev pub AcceptedJoins : Type 0

@@ -1,36 +1,25 @@
--- What reordering the modifier marks of a part of a line promises, of every request, by the call's statement (`Reordering` of crate marks): `OneAnswer`, `RefusedStays`, `SmallestNumber`;
+-- What reordering the modifier marks of a part of a line promises, of every request, by the call's statement (`Reordering` of crate marks): `Promised` what every call promises (`Kept` of crate refusals);
 -- `Outside` that a column stays as it was but for the part, `OnlyThePart`; `ByUtr53`, `Arranged` what the part becomes where its classes do not fall; `withCode`, `NothingLost`, `OthersStay` what holds whatever its classes are;
 -- `Within`, `AllWithin`, `AtMostTwo` where the ranges lie; `beneath`, `spanned`, `RangeOfEach` which they are where classes do not fall; `Covered`, `ChangesMerged` that they miss nothing.
 -- Assumes nothing.
 use mathlib.Core.Path.{_≡_}
-use mathlib.Core.Bool.{true, not}
+use mathlib.Core.Bool.{not}
 use mathlib.Core.List.{List, [], _∷_, _++_}
 use mathlib.Core.Logic.{_⊎_}
 use Prim.Native.Nat.{ℕ, _+_, _<_, _≤_}
 use lib.Dec.{eqb, ltb}
 use lib.ListN.{length, getD, take, drop}
 use Rattle.laws.specs.Lists.{those}
-use Rattle.laws.specs.Rows.{Has}
+use Rattle.refusals.specs.Promises.{Kept}
 use Rattle.blocks.specs.Marks.{Mark, codesOf}
 use Rattle.marks.specs.declared.Answer.{Answer}
 use Rattle.marks.specs.Passes.{Span, Over}
 use Rattle.marks.specs.Reordered.{Request, Columns, part, reorderRows, numberSaid, rangesSaid, Reordering}
 use Rattle.marks.specs.Utr53.{Rising, isModifier, lead, utr53, arranged}
 
--- Any two answers that the statement allows are equal, and so are the columns that they leave.
-abbrev pub OneAnswer : Type 0
-OneAnswer = (q : Request) (c : Columns) (r u : Answer) (d e : Columns) → Reordering q c r d → Reordering q c u e → (r ≡ u) × (d ≡ e)
-
--- A request that is refused alters nothing, and has no range.
-abbrev pub RefusedStays : Type 0
-RefusedStays = (q : Request) (c : Columns) (r : Answer) (d : Columns) → Reordering q c r d → (numberSaid r ≡ 0 → ⊥) → (d ≡ c) × (rangesSaid r ≡ [])
-
--- Where several refusals apply, the smallest number is given: a number that is given is that of a row of the table that applies; and where a row
--- applies, a number is given, and no larger one. So a request is accepted exactly when no row applies.
-abbrev pub SmallestNumber : Type 0
-SmallestNumber =
-    (q : Request) (c : Columns) (r : Answer) (d : Columns) → Reordering q c r d
-    → ((numberSaid r ≡ 0 → ⊥) → Has (reorderRows q c) (numberSaid r) true) × ((n : ℕ) → Has (reorderRows q c) n true → (0 < numberSaid r) × (numberSaid r ≤ n))
+-- What every call promises, of this one: one answer; a refusal alters nothing and has no range; the smallest number that applies is given.
+abbrev pub Promised : Type 0
+Promised = Kept Reordering numberSaid reorderRows (λ r _. rangesSaid r ≡ [])
 
 -- ---- an accepted request: the rest of the line
 -- a column l has become m: before start and from end on it is as it was, and it has neither grown nor shrunk

@@ -1,30 +1,19 @@
--- What recording `stch` promises, of every request, by the call's statement (`Recording` of crate recording): `OneAnswer`, `RefusedStays`, `SmallestNumber`; `OnlyMultiplied`, `ByParity` what becomes of an action;
+-- What recording `stch` promises, of every request, by the call's statement (`Recording` of crate recording): `Promised` what every call promises (`Kept` of crate refusals); `OnlyMultiplied`, `ByParity` what becomes of an action;
 -- `SaysWhether` what the answer says; `NothingHappens` that it says so truly.
 -- Assumes nothing.
 use mathlib.Core.Path.{_≡_}
 use mathlib.Core.Bool.{true, false}
 use mathlib.Core.List.{List}
-use Prim.Native.Nat.{ℕ, _%_, _<_, _≤_}
+use Prim.Native.Nat.{ℕ, _%_}
 use lib.ListN.{getD}
-use Rattle.laws.specs.Rows.{Has}
+use Rattle.refusals.specs.Promises.{Kept}
 use Rattle.letters.specs.Actions.{fixed, repeating}
 use Rattle.recording.specs.declared.Answer.{Answer}
 use Rattle.recording.specs.Recorded.{Request, recordRows, numberSaid, recordedSaid, Recording}
 
--- Any two answers that the statement allows are equal, and so are the actions that they leave.
-abbrev pub OneAnswer : Type 0
-OneAnswer = (q : Request) (actions : List ℕ) (r u : Answer) (left other : List ℕ) → Recording q actions r left → Recording q actions u other → (r ≡ u) × (left ≡ other)
-
--- A request that is refused alters nothing, and says that nothing was recorded.
-abbrev pub RefusedStays : Type 0
-RefusedStays = (q : Request) (actions : List ℕ) (r : Answer) (left : List ℕ) → Recording q actions r left → (numberSaid r ≡ 0 → ⊥) → (left ≡ actions) × (recordedSaid r ≡ false)
-
--- Where several refusals apply, the smallest number is given: a number that is given is that of a row of the table that applies; and where a row
--- applies, a number is given, and no larger one. So a request is accepted exactly when no row applies.
-abbrev pub SmallestNumber : Type 0
-SmallestNumber =
-    (q : Request) (actions : List ℕ) (r : Answer) (left : List ℕ) → Recording q actions r left
-    → ((numberSaid r ≡ 0 → ⊥) → Has (recordRows q actions) (numberSaid r) true) × ((n : ℕ) → Has (recordRows q actions) n true → (0 < numberSaid r) × (numberSaid r ≤ n))
+-- What every call promises, of this one: one answer; a refusal alters nothing and says that nothing was recorded; the smallest number that applies is given.
+abbrev pub Promised : Type 0
+Promised = Kept Recording numberSaid recordRows (λ r _. recordedSaid r ≡ false)
 
 -- A record that is not multiplied keeps its action.
 abbrev pub OnlyMultiplied : Type 0

@@ -1,4 +1,4 @@
--- What replacing a letter promises, of every line, by the call's statement (`Replacing` of crate replacing): `OneAnswer`, `RefusedStays`, `SmallestNumber`. Demand 3: `Current` that every record
+-- What replacing a letter promises, of every line, by the call's statement (`Replacing` of crate replacing): `Promised` what every call promises (`Kept` of crate refusals). Demand 3: `Current` that every record
 -- is as joining afresh gives; `FreshCurrent`, `StaysCurrent`, `AlwaysCurrent` that a line stays so, `JoinsToItself` that joining accepts it and alters nothing; `Named` the records that a new letter can alter,
 -- in plain words, `NamedAlike` by the old line as by the new; `AltersNear`, `GetsFresh`, `ChangesLetter`, `NoOther` what a replacement alters and what not; `EitherOrder` that two may change places.
 -- Assumes nothing.
@@ -8,30 +8,18 @@ use mathlib.Core.List.{List, [], _∷_}
 use mathlib.Core.Logic.{_↔_}
 use Prim.Native.Nat.{ℕ, _<_, _≤_}
 use lib.ListN.{length, getD, set}
-use Rattle.laws.specs.Rows.{Has}
 use Rattle.refusals.specs.declared.Verdict.{Verdict}
 use Rattle.refusals.specs.Numbers.{said}
+use Rattle.refusals.specs.Promises.{Kept}
 use Rattle.selectors.specs.Selectors.{selector}
 use Rattle.lines.specs.Held.{Setting, Line}
 use Rattle.lines.specs.Joined.{typesOf, joinedLine, Joining}
 use Rattle.replacing.specs.Replaced.{Request, replaceRows, Replacing}
 use Rattle.demands.specs.Neighbours.{NearestBefore, NearestBehind}
 
--- Any two answers that the statement allows are equal, and so are the lines that they leave.
-abbrev pub OneAnswer : Type 0
-OneAnswer =
-    (s : Setting) (a : Request) (l : Line) (r u : Verdict) (m n : Line) → Replacing s a l r m → Replacing s a l u n → (r ≡ u) × (m ≡ n)
-
--- A request that is refused alters nothing.
-abbrev pub RefusedStays : Type 0
-RefusedStays = (s : Setting) (a : Request) (l : Line) (r : Verdict) (m : Line) → Replacing s a l r m → (said r ≡ 0 → ⊥) → m ≡ l
-
--- Where several refusals apply, the smallest number is given: a number that is given is that of a row of the table that applies; and where a row
--- applies, a number is given, and no larger one. So a request is accepted exactly when no row applies.
-abbrev pub SmallestNumber : Type 0
-SmallestNumber =
-    (s : Setting) (a : Request) (l : Line) (r : Verdict) (m : Line) → Replacing s a l r m
-    → ((said r ≡ 0 → ⊥) → Has (replaceRows s a l) (said r) true) × ((n : ℕ) → Has (replaceRows s a l) n true → (0 < said r) × (said r ≤ n))
+-- What every call promises, of this one: one answer; a refusal alters nothing; the smallest number that applies is given.
+abbrev pub Promised : Type 0
+Promised = Kept {Asked = Setting × Request} (λ q. Replacing (q .0) (q .1)) said (λ q. replaceRows (q .0) (q .1)) (λ _ _. Unit)
 
 -- ---- demand 3: no old forms
 -- every record has the action and the mask that joining the line's present letters afresh gives
@@ -91,8 +79,8 @@ NamedAlike =
     (s : Setting) (a : Request) (l : Line) (r : Verdict) (m : Line) → Replacing s a l r m → said r ≡ 0 → (j : ℕ) → NamedIn s l (a .place) j ↔ NamedIn s m (a .place) j
 
 -- the line m has the action and the mask of the line l at each record that is not named
-abbrev pub Kept : Setting → Request → Line → Line → Type 0
-Kept s a l m =
+abbrev pub OthersKept : Setting → Request → Line → Line → Type 0
+OthersKept s a l m =
     (j : ℕ) → (NamedIn s m (a .place) j → ⊥) → (getD (m .actions) j 0 ≡ getD (l .actions) j 0) × (getD (m .masks) j 0 ≡ getD (l .masks) j 0)
 
 -- and at each that is named, those that joining its letters afresh gives
@@ -103,7 +91,7 @@ Renewed s a m =
 
 -- A replacement alters the action and the mask of no other record, by the letters and codes that the line has then.
 abbrev pub AltersNear : Type 0
-AltersNear = (s : Setting) (a : Request) (l : Line) (r : Verdict) (m : Line) → Replacing s a l r m → said r ≡ 0 → Kept s a l m
+AltersNear = (s : Setting) (a : Request) (l : Line) (r : Verdict) (m : Line) → Replacing s a l r m → said r ≡ 0 → OthersKept s a l m
 
 -- Those records get the action and the mask that joining the line's new letters afresh gives, whatever they had.
 abbrev pub GetsFresh : Type 0
@@ -126,7 +114,7 @@ ChangesLetter = (s : Setting) (a : Request) (l : Line) (r : Verdict) (m : Line) 
 abbrev pub NoOther : Type 0
 NoOther =
     (s : Setting) (a : Request) (l : Line) (r : Verdict) (m : Line) → Replacing s a l r m → said r ≡ 0
-    → (k : Line) → NewLetter a l k → Kept s a l k → Renewed s a k → k ≡ m
+    → (k : Line) → NewLetter a l k → OthersKept s a l k → Renewed s a k → k ≡ m
 
 -- Two requests for different places leave the same line in either order, and each is answered alike, accepted or refused. The line need not be current.
 abbrev pub EitherOrder : Type 0

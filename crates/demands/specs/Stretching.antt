@@ -1,4 +1,4 @@
--- What stretching promises. Of every request, by the call's statement (`Stretching` of crate stretching): `OneAnswer`, `RefusedStays`, `SmallestNumber`; `PastTheAnswer` that output past the answer is untouched;
+-- What stretching promises. Of every request, by the call's statement (`Stretching` of crate stretching): `Promised` what every call promises (`Kept` of crate refusals); `PastTheAnswer` that output past the answer is untouched;
 -- `records` the records that an output begins with; `GivenAsItIs` which lines stay as they are; `CountAdded` how many records there are; `OthersStay` what becomes of a record that is no tile; `times`, `repeated`, `CopiesKeep`, `FromTheLine` what copies keep;
 -- `RunsHaveNoAdvance`. Of the definition (`stretched` of crate runs): `unplaced`, `TurnedRound` that the other direction is the same work.
 -- Assumes nothing.
@@ -6,11 +6,11 @@ use mathlib.Core.Path.{_≡_}
 use mathlib.Core.Bool.{Bool, true, false, cond, not}
 use mathlib.Core.List.{List, [], _∷_, _++_, map, reverse}
 use mathlib.Core.Logic.{_⊎_}
-use Prim.Native.Nat.{ℕ, _+_, _<_, _≤_}
+use Prim.Native.Nat.{ℕ, _+_, _<_}
 use lib.ListN.{length, replicate}
 use lib.IntN.{pos}
 use Rattle.laws.specs.Lists.{those, Past}
-use Rattle.laws.specs.Rows.{Has}
+use Rattle.refusals.specs.Promises.{Kept}
 use Rattle.letters.specs.Actions.{repeating}
 use Rattle.runs.specs.declared.Tile.{Tile}
 use Rattle.runs.specs.Records.{Record, Columns, recordAt, listed, lineOf, kept, put}
@@ -19,21 +19,9 @@ use Rattle.runs.specs.Stretched.{inOrder, work, stretched, recordsAdded}
 use Rattle.stretching.specs.declared.Answer.{Answer}
 use Rattle.stretching.specs.Stretching.{Request, stretchedLimit, stretchRows, numberSaid, lengthSaid, Stretching}
 
--- Any two answers that the statement allows are equal, and so are the outputs that they leave.
-abbrev pub OneAnswer : Type 0
-OneAnswer = (q : Request) (output : Columns) (r u : Answer) (left other : Columns) → Stretching q output r left → Stretching q output u other → (r ≡ u) × (left ≡ other)
-
--- A request that is refused alters nothing, and answers a length of 0.
-abbrev pub RefusedStays : Type 0
-RefusedStays = (q : Request) (output : Columns) (r : Answer) (left : Columns) → Stretching q output r left → (numberSaid r ≡ 0 → ⊥) → (left ≡ output) × (lengthSaid r ≡ 0)
-
--- Where several refusals apply, the smallest number is given: a number that is given is that of a row of the table that applies; and where a row
--- applies, a number is given, and no larger one. So a request is accepted exactly when no row applies.
-abbrev pub SmallestNumber : Type 0
-SmallestNumber =
-    (q : Request) (output : Columns) (r : Answer) (left : Columns) → Stretching q output r left
-    → ((numberSaid r ≡ 0 → ⊥) → Has (stretchRows stretchedLimit q output) (numberSaid r) true)
-    × ((n : ℕ) → Has (stretchRows stretchedLimit q output) n true → (0 < numberSaid r) × (numberSaid r ≤ n))
+-- What every call promises, of this one: one answer; a refusal alters nothing and answers a length of 0; the smallest number that applies is given.
+abbrev pub Promised : Type 0
+Promised = Kept Stretching numberSaid (stretchRows stretchedLimit) (λ r _. lengthSaid r ≡ 0)
 
 -- ---- the output
 -- Output past the answered length is untouched, in each column: all of it, where a request is refused.

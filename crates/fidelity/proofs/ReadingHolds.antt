@@ -16,7 +16,8 @@ use Rattle.laws.specs.Rows.{first}
 use Rattle.laws.proofs.RowLaws.{first-none}
 use Rattle.laws.proofs.TestLaws.{neither}
 use Rattle.refusals.specs.Columns.{rising}
-use Rattle.refusals.proofs.LeftLaws.{alike, left-number, left-stays, left-accepted, left-smallest, left-done}
+use Rattle.refusals.proofs.LeftLaws.{left-number, left-stays, left-accepted, left-done}
+use Rattle.refusals.proofs.PromiseLaws.{kept}
 use Rattle.words.specs.Words.{bytes}
 use Rattle.words.proofs.WordLaws.{length-bytes}
 use Rattle.layouts.specs.declared.Kind.{Kind}
@@ -27,26 +28,31 @@ use Rattle.layouts.specs.Tables.{sets, offsets, joined, ligatureOf, ligature}
 use Rattle.layouts.specs.Lookups.{Lookup, lookupOf, width, rules, wordsOf, firsts}
 use Rattle.layouts.specs.Written as write
 use Rattle.layouts.specs.Written.{outcome, writeRefusal, writeAfter, Writing}
-use Rattle.layouts.proofs.WrittenLaws.{one-written, Allowed, none-given}
+use Rattle.layouts.proofs.WrittenLaws.{Allowed, none-given}
 use Rattle.scanning.specs.Scans.{Scan, fine, wrong, short}
 use Rattle.scanning.specs.Grammar.{reading}
 use Rattle.scanning.specs.Exact.{kindRead, asRead, Readable}
 use Rattle.scanning.proofs.ExactLaws.{bytes-accepted, bytes-written}
 use Rattle.reading.specs.declared.Answer.{Answer}
-use Rattle.reading.specs.Read.{Columns, Outcome, nothing, found, lacking, made, rowsOf, readRefusal, numberSaid, outcomeSaid, readAfter, Reading}
-use Rattle.fidelity.specs.Reading as promised
-use Rattle.fidelity.specs.Reading.{OneAnswer, RefusedStays, SmallestNumber, countSaid, glyphsSaid, PastTheAnswer, WriterGives, Accepts, lookupSaid, ReadsBack, WritesBack, NeverFall, EmptyAlike, EmptyReadsTwo}
+use Rattle.reading.specs.Read.{Columns, Outcome, nothing, found, lacking, made, rowsOf, readRefusal, numberSaid, outcomeSaid, Reading}
+use Rattle.fidelity.specs.Reading.{Promised, AreBytes, countSaid, glyphsSaid, PastTheAnswer, WriterGives, Accepts, lookupSaid, ReadsBack, WritesBack, NeverFall, EmptyAlike, EmptyReadsTwo}
 use Rattle.fidelity.proofs.WritingHolds as writing
 use Rattle.fidelity.proofs.SaidLaws.{list-said, same-answer, Said, said-found}
 
-pub one-answer : OneAnswer
-one-answer b c r u left other x y =
-    let g = alike (numberSaid r) (numberSaid u) _ _ (readAfter b c) x y in
-    (same-answer r u left other (g .0) (g .1), sym (list-said r left) ∙ ap (λ (o : Outcome). o .list) (g .1) ∙ list-said u other)
+-- what an answer says has the columns that were left
+same-list : (r : Answer) (left : Columns) (o : Outcome) → outcomeSaid r left ≡ o → left ≡ o .list
+same-list r left o e = sym (list-said r left) ∙ ap (λ (x : Outcome). x .list) e
 
-pub smallest-number : SmallestNumber
+pub promised : Promised
 unfolding readRefusal
-smallest-number b c r left = left-smallest (rowsOf (reading b) c) refl (nothing c) (made (reading b) c) (numberSaid r) (outcomeSaid r left)
+promised =
+    kept {told = outcomeSaid} {old = nothing} {new = λ b. made (reading b)}
+    (record {
+      says = λ b c r left x. x;
+      rising = λ b c. refl;
+      fixed = λ r u left other n o. (same-answer r u left other n o, same-list r left _ o ∙ list-said u other);
+      idle = λ r c left o. let same = same-list r left (nothing c) o in (same, o ∙ ap nothing (sym same));
+    })
 
 -- ---- what the call leaves if it is refused, and if it is not
 -- the bytes are a lookup's, and the columns hold its list
@@ -60,10 +66,8 @@ module _ (b : List ℕ) (c : Columns) (r : Answer) (left : Columns) (x : Reading
   pub number-given : numberSaid r ≡ readRefusal (reading b) c
   number-given = left-number (readRefusal (reading b) c) (nothing c) (made (reading b) c) (numberSaid r) (outcomeSaid r left) x
 
-  pub stays : (numberSaid r ≡ 0 → ⊥) → (left ≡ c) × (outcomeSaid r left ≡ nothing c)
-  stays d =
-      let g = left-stays (readRefusal (reading b) c) (nothing c) (made (reading b) c) (numberSaid r) (outcomeSaid r left) x d in
-      (sym (list-said r left) ∙ ap (λ (o : Outcome). o .list) g, g)
+  pub unaltered : (numberSaid r ≡ 0 → ⊥) → outcomeSaid r left ≡ nothing c
+  unaltered = left-stays (readRefusal (reading b) c) (nothing c) (made (reading b) c) (numberSaid r) (outcomeSaid r left) x
 
   pub done : numberSaid r ≡ 0 → outcomeSaid r left ≡ made (reading b) c
   done z = left-accepted (readRefusal (reading b) c) (nothing c) (made (reading b) c) (numberSaid r) (outcomeSaid r left) x z
@@ -79,9 +83,6 @@ module _ (b : List ℕ) (c : Columns) (r : Answer) (left : Columns) (x : Reading
           (l, record { said = e; glyphs = ltb-false _ _ (n .0); substitutes = ltb-false _ _ (n .1); there = o })
       go (wrong left) e f o = absurd (omega arith)
       go short e f o = absurd (omega arith)
-
-pub refused-stays : RefusedStays
-refused-stays = stays
 
 -- ---- what the writer gives
 module _ (l : Lookup) where
@@ -164,7 +165,7 @@ reads-back l area w out x z up c glyphs substitutes r left y =
     (none, said-found (asRead l) even c r left none (done b c r left y none ∙ ap (λ (s : Scan). made s c) s) .lookup)
 
 -- the lookup that an accepted answer says is the one whose bytes were read
-module _ (b : List ℕ) (h : promised.Bytes b) (c : Columns) (r : Answer) (left : Columns) (x : Reading b c r left) (z : numberSaid r ≡ 0) where
+module _ (b : List ℕ) (h : AreBytes b) (c : Columns) (r : Answer) (left : Columns) (x : Reading b c r left) (z : numberSaid r ≡ 0) where
   abbrev said : Lookup
   said = was-found b c r left x z .0
 
@@ -180,7 +181,7 @@ module _ (b : List ℕ) (h : promised.Bytes b) (c : Columns) (r : Answer) (left 
   is-said = said-found said (is-written .1 .even) c r left z (is-found .there)
 
   columns-left : left ≡ found said c .list
-  columns-left = sym (list-said r left) ∙ ap (λ (o : Outcome). o .list) (is-found .there)
+  columns-left = same-list r left (found said c) (is-found .there)
 
   past-glyphs : Past (glyphsSaid r) (c .glyphs) (left .glyphs)
   past-glyphs = past-front (length (said .glyphs)) (said .glyphs) (c .glyphs) (left .glyphs) refl (is-found .glyphs) (ap (λ (d : Columns). d .glyphs) columns-left) (glyphsSaid r) (is-said .glyphs)
@@ -218,7 +219,7 @@ past-the-answer b h c r left x = go (numberSaid r) refl
   where
     go : (n : ℕ) → numberSaid r ≡ n → Past (glyphsSaid r) (c .glyphs) (left .glyphs) × Past (countSaid r) (c .substitutes) (left .substitutes)
     go zero e = (past-glyphs b h c r left x e, past-substitutes b h c r left x e)
-    go (suc n) e = rw (stays b c r left x (λ z. omega (arith, e, z)) .0) (past-same (glyphsSaid r) (c .glyphs), past-same (countSaid r) (c .substitutes))
+    go (suc n) e = rw (promised .refused-stays b c r left x (λ z. omega (arith, e, z)) .0) (past-same (glyphsSaid r) (c .glyphs), past-same (countSaid r) (c .substitutes))
 
 -- ---- an empty list of ligatures
 after-alike : (flags : ℕ) (area : List ℕ) → writeAfter (lookupOf flags (Ligature 3) [] []) area ≡ writeAfter (lookupOf flags (Ligature 2) [] []) area
@@ -226,7 +227,7 @@ unfolding writeRefusal rules ligature ligatureOf sets offsets joined
 after-alike flags area = refl
 
 pub empty-alike : EmptyAlike
-empty-alike flags area w v out other x y = one-written (lookupOf flags (Ligature 2) [] []) area w v out other x (y ∙ after-alike flags area)
+empty-alike flags area w v out other x y = writing.promised .one-answer (lookupOf flags (Ligature 2) [] []) area w v out other x (y ∙ after-alike flags area)
 
 pub empty-reads-two : EmptyReadsTwo
 unfolding rules

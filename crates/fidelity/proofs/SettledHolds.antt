@@ -18,10 +18,10 @@ use Rattle.scanning.specs.Exact.{asRead}
 use Rattle.scanning.proofs.ExactLaws.{bytes-written}
 use Rattle.reading.specs.declared.Answer.{Answer}
 use Rattle.reading.specs.Read.{Columns, nothing, found, accepted, lacking, made, rowsOf, readRefusal, numberSaid, outcomeSaid, Reading}
-use Rattle.fidelity.specs.Reading.{Bytes}
+use Rattle.fidelity.specs.Reading.{AreBytes}
 use Rattle.fidelity.specs.Settled as settled
 use Rattle.fidelity.specs.Settled.{Room, GivenFor, Settled, ByTheWriters, NoOther}
-use Rattle.fidelity.proofs.ReadingHolds.{one-answer, gives-written, given-read, number-given, done, stays}
+use Rattle.fidelity.proofs.ReadingHolds.{promised, gives-written, given-read, number-given, unaltered, done}
 
 -- the test of room is that
 module _ (l : Lookup) (c : Columns) where
@@ -40,7 +40,7 @@ module _ (l : Lookup) (c : Columns) where
       go true e = refl
       go false e = absurd (n (room-there e))
 
-module _ (b : List ℕ) (h : Bytes b) (c : Columns) (r : Answer) (left : Columns) where
+module _ (b : List ℕ) (h : AreBytes b) (c : Columns) (r : Answer) (left : Columns) where
   given : (l : Lookup) → reading b ≡ fine l → GivenFor b l
   given l e = let m = bytes-written b h l e in record { gives = gives-written b l (m .0) (m .1 .readable); reads = m .1 .same }
 
@@ -52,10 +52,10 @@ module _ (b : List ℕ) (h : Bytes b) (c : Columns) (r : Answer) (left : Columns
   on x = go (reading b) refl (number-given b c r left x) (done b c r left x)
     where
       unread : numberSaid r ≡ 7 → ((l : Lookup) → reading b ≡ fine l → ⊥) → Settled b c r left
-      unread e never = settled.noLookup (λ l g. never (asRead l) (given-read b l g)) e (stays b c r left x (λ z. omega (arith, e, z)) .1)
+      unread e never = settled.noLookup (λ l g. never (asRead l) (given-read b l g)) e (unaltered b c r left x (λ z. omega (arith, e, z)))
 
       room : (l : Lookup) → reading b ≡ fine l → (t : Bool) → lacking (fine l) c ≡ t → numberSaid r ≡ cond t 8 0 → (numberSaid r ≡ 0 → outcomeSaid r left ≡ found l c) → Settled b c r left
-      room l e true k n o = settled.noRoom l (given l e) (λ q. false≢true (sym (room-not-lacking l c q) ∙ k)) n (stays b c r left x (λ z. omega (arith, n, z)) .1)
+      room l e true k n o = settled.noRoom l (given l e) (λ q. false≢true (sym (room-not-lacking l c q) ∙ k)) n (unaltered b c r left x (λ z. omega (arith, n, z)))
       room l e false k n o = settled.read l (given l e) (room-there l c k) n (o n)
 
       go : (s : Scan) → reading b ≡ s → numberSaid r ≡ first (rowsOf s c) → (numberSaid r ≡ 0 → outcomeSaid r left ≡ made s c) → Settled b c r left
@@ -78,4 +78,4 @@ pub by-the-writers : ByTheWriters
 by-the-writers b h c r left = (on b h c r left, back b h c r left)
 
 pub no-other : NoOther
-no-other b h c r left x u other s = one-answer b c u r other left (back b h c u other s) x
+no-other b h c r left x u other s = promised .one-answer b c u r other left (back b h c u other s) x

@@ -11,7 +11,8 @@ use lib.Dec.{ltb, leb}
 use lib.ListN.{length, drop, length-map}
 use Rattle.laws.specs.Lists.{Past}
 use Rattle.laws.proofs.PartLaws.{past-same, past-front}
-use Rattle.refusals.proofs.LeftLaws.{left-number, left-stays, left-accepted, left-smallest}
+use Rattle.refusals.proofs.LeftLaws.{left-number, left-accepted}
+use Rattle.refusals.proofs.PromiseLaws.{kept}
 use Rattle.words.specs.Words.{bytes, wordsAt}
 use Rattle.words.proofs.WordLaws.{length-bytes}
 use Rattle.layouts.specs.declared.Kind.{Kind}
@@ -19,24 +20,21 @@ use Rattle.layouts.specs.declared.Kind.the-variants.{Single, Ligature}
 use Rattle.layouts.specs.declared.Written.{Written}
 use Rattle.layouts.specs.Tables.{Rule, first, leader, sets}
 use Rattle.layouts.specs.Lookups.{Lookup, lookupOf, width, known, rules, laidOut, wordsOf, firstsIn, fits}
-use Rattle.layouts.specs.Written.{Outcome, outcome, rowsOf, writeRefusal, numberSaid, lengthSaid, Writing}
+use Rattle.layouts.specs.Written.{Outcome, outcome, writeRefusal, numberSaid, lengthSaid, Writing}
 use Rattle.layouts.proofs.FitLaws.{fits-lent}
 use Rattle.layouts.proofs.SetLaws.{wide-rules}
 use Rattle.layouts.proofs.SizeLaws.{length-rules, size-single, size-ligature}
 use Rattle.layouts.proofs.LimitLaws.{Regular, regular-rules, single-fits}
-use Rattle.layouts.proofs.WrittenLaws.{one-written, Allowed, allowed, offset-given, room-given, none-given, two-or-three}
+use Rattle.layouts.proofs.WrittenLaws.{same-answer, Allowed, allowed, offset-given, room-given, none-given, two-or-three}
 use Rattle.reading.specs.Read.{typeOf}
 use Rattle.fidelity.specs.Followed.{coverageAt, followed}
-use Rattle.fidelity.specs.Writing.{OneAnswer, RefusedStays, SmallestNumber, PastTheAnswer, changes, sizeOf, Size, Lent, Even, OffsetFrom, mostSingle, SingleLimit, mostInSet, OneSetLimit, mostAlone, LoneRuleLimit, formatOf, Headed, coveredIn, Covered, EveryOffset}
+use Rattle.fidelity.specs.Writing.{Promised, PastTheAnswer, changes, sizeOf, Size, Lent, Even, OffsetFrom, mostSingle, SingleLimit, mostInSet, OneSetLimit, mostAlone, LoneRuleLimit, formatOf, Headed, coveredIn, Covered, EveryOffset}
 use Rattle.fidelity.proofs.ChangeLaws.{leaders-changes, length-changes}
 use Rattle.fidelity.proofs.StandLaws.{Stands, stands-bytes, Laid, coverage-at}
 use Rattle.fidelity.proofs.FollowLaws.{single-laid, single-followed, starts, blocks, ligature-laid, ligature-followed}
 use Rattle.fidelity.proofs.BoundLaws.{one-set-fits, lone-rules-fit, one-set-most, lone-rules-most}
 
-pub one-answer : OneAnswer
-one-answer = one-written
-
--- ---- what the call leaves if it is refused, and if it is not
+-- ---- what the call leaves if it is not refused
 module _ (l : Lookup) (area : List ℕ) where
   abbrev new : Outcome
   new = outcome (2 * length (wordsOf l)) (bytes (wordsOf l) ++ drop (2 * length (wordsOf l)) area)
@@ -44,11 +42,6 @@ module _ (l : Lookup) (area : List ℕ) where
   module _ (r : Written) (left : List ℕ) (x : Writing l area r left) where
     pub number-given : numberSaid r ≡ writeRefusal l (length area)
     number-given = left-number (writeRefusal l (length area)) (outcome 0 area) new (numberSaid r) (outcome (lengthSaid r) left) x
-
-    stays : (numberSaid r ≡ 0 → ⊥) → (left ≡ area) × (lengthSaid r ≡ 0)
-    stays d =
-        let g = left-stays (writeRefusal l (length area)) (outcome 0 area) new (numberSaid r) (outcome (lengthSaid r) left) x d in
-        (ap (λ (o : Outcome). o .area) g, ap (λ (o : Outcome). o .count) g)
 
     module _ (z : numberSaid r ≡ 0) where
       pub accepted : Allowed l (length area)
@@ -69,19 +62,23 @@ module _ (l : Lookup) (area : List ℕ) where
       past : Past (lengthSaid r) area left
       past = past-front (2 * length (wordsOf l)) (bytes (wordsOf l)) area left (length-bytes (wordsOf l)) (accepted .enough) area-left (lengthSaid r) length-left
 
-pub refused-stays : RefusedStays
-refused-stays = stays
-
-pub smallest-number : SmallestNumber
+pub promised : Promised
 unfolding writeRefusal
-smallest-number l area r left = left-smallest (rowsOf l (length area)) refl (outcome 0 area) (new l area) (numberSaid r) (outcome (lengthSaid r) left)
+promised =
+    kept {told = λ r left. outcome (lengthSaid r) left} {old = outcome 0} {new = new}
+    (record {
+      says = λ l area r left x. x;
+      rising = λ l area. refl;
+      fixed = λ r u left other n o. (same-answer r u n (ap (λ (x : Outcome). x .count) o), ap (λ (x : Outcome). x .area) o);
+      idle = λ r area left o. (ap (λ (x : Outcome). x .area) o, ap (λ (x : Outcome). x .count) o);
+    })
 
 pub past-the-answer : PastTheAnswer
 past-the-answer l area r left x = go (numberSaid r) refl
   where
     go : (n : ℕ) → numberSaid r ≡ n → Past (lengthSaid r) area left
     go zero e = past l area r left x e
-    go (suc n) e = rw (stays l area r left x (λ z. omega (arith, e, z)) .0) (past-same (lengthSaid r) area)
+    go (suc n) e = rw (promised .refused-stays l area r left x (λ z. omega (arith, e, z)) .0) (past-same (lengthSaid r) area)
 
 -- ---- of each kind
 low : (n : ℕ) → (n ≡ 2) ⊎ (n ≡ 3) → 0 < n

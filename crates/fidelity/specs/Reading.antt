@@ -1,4 +1,4 @@
--- What reading a lookup back promises, of every row of bytes, by the calls' statements (`Reading` of crate reading, `Writing` of crate layouts): `OneAnswer`, `RefusedStays`, `SmallestNumber`; `countSaid`, `glyphsSaid`, `PastTheAnswer`; `Bytes`, `WriterGives`, `Accepts` which bytes are accepted; `lookupSaid` the lookup that an answer says;
+-- What reading a lookup back promises, of every row of bytes, by the calls' statements (`Reading` of crate reading, `Writing` of crate layouts): `Promised` what every call promises (`Kept` of crate refusals); `countSaid`, `glyphsSaid`, `PastTheAnswer`; `AreBytes`, `WriterGives`, `Accepts` which bytes are accepted; `lookupSaid` the lookup that an answer says;
 -- `ReadsBack`, `WritesBack` both ways round; `NeverFall` what is read; `EmptyAlike`, `EmptyReadsTwo` of an empty list of ligatures.
 -- Assumes nothing.
 use mathlib.Core.Path.{_≡_}
@@ -8,8 +8,8 @@ use mathlib.Core.List.{List, []}
 use Prim.Native.Nat.{ℕ, _*_, _<_, _≤_}
 use lib.ListN.{length, getD, take}
 use Rattle.laws.specs.Lists.{Past}
-use Rattle.laws.specs.Rows.{Has}
 use Rattle.refusals.specs.Columns.{rising}
+use Rattle.refusals.specs.Promises.{Kept}
 use Rattle.layouts.specs.declared.Kind.the-variants.{Single, Ligature}
 use Rattle.layouts.specs.declared.Written.{Written}
 use Rattle.layouts.specs.Lookups.{Lookup, lookupOf, width, firsts}
@@ -21,26 +21,14 @@ use Rattle.reading.specs.declared.Answer.{Answer}
 use Rattle.reading.specs.declared.Answer.the-variants.{Read, Refused}
 use Rattle.reading.specs.Read.{Columns, rowsOf, nothing, numberSaid, outcomeSaid, Reading}
 
--- Any two answers that the statement allows are equal, and so are the columns that they leave.
-abbrev pub OneAnswer : Type 0
-OneAnswer = (b : List ℕ) (c : Columns) (r u : Answer) (left other : Columns) → Reading b c r left → Reading b c u other → (r ≡ u) × (left ≡ other)
-
--- Bytes that are refused alter nothing, and zeros are answered.
-abbrev pub RefusedStays : Type 0
-RefusedStays = (b : List ℕ) (c : Columns) (r : Answer) (left : Columns) → Reading b c r left → (numberSaid r ≡ 0 → ⊥) → (left ≡ c) × (outcomeSaid r left ≡ nothing c)
-
--- Where both refusals apply, the smaller number is given: a number that is given is that of a row of the table that applies; and where a row
--- applies, a number is given, and no larger one. So a lookup is read exactly when no row applies.
-abbrev pub SmallestNumber : Type 0
-SmallestNumber =
-    (b : List ℕ) (c : Columns) (r : Answer) (left : Columns) → Reading b c r left
-    → ((numberSaid r ≡ 0 → ⊥) → Has (rowsOf (reading b) c) (numberSaid r) true)
-    × ((n : ℕ) → Has (rowsOf (reading b) c) n true → (0 < numberSaid r) × (numberSaid r ≤ n))
+-- What every call promises, of this one: one answer; a refusal alters nothing and answers zeros; the smallest number that applies is given.
+abbrev pub Promised : Type 0
+Promised = Kept Reading numberSaid (λ b. rowsOf (reading b)) (λ r left. outcomeSaid r left ≡ nothing left)
 
 -- ---- the columns
 -- bytes, as the type of lent memory says
-abbrev pub Bytes : List ℕ → Type 0
-Bytes b = (i : ℕ) → getD b i 0 < 256
+abbrev pub AreBytes : List ℕ → Type 0
+AreBytes b = (i : ℕ) → getD b i 0 < 256
 
 -- how many rules, and how many glyphs they replace; a refusal says none
 abbrev pub countSaid : Answer → ℕ
@@ -54,7 +42,7 @@ glyphsSaid (Refused k) = 0
 -- The columns past the answer are untouched, each by its own part, and they neither grow nor shrink.
 abbrev pub PastTheAnswer : Type 0
 PastTheAnswer =
-    (b : List ℕ) → Bytes b → (c : Columns) (r : Answer) (left : Columns) → Reading b c r left
+    (b : List ℕ) → AreBytes b → (c : Columns) (r : Answer) (left : Columns) → Reading b c r left
     → Past (glyphsSaid r) (c .glyphs) (left .glyphs) × Past (countSaid r) (c .substitutes) (left .substitutes)
 
 -- ---- which bytes are accepted
@@ -70,7 +58,7 @@ pub record WriterGives (b : List ℕ) (l : Lookup) : Type 0 where
 
 -- "Bytes are accepted exactly when they are what the writer gives for some list whose first glyphs do not fall": 7 is not given exactly when there is such a list.
 abbrev pub Accepts : Type 0
-Accepts = (b : List ℕ) → Bytes b → (c : Columns) (r : Answer) (left : Columns) → Reading b c r left → (numberSaid r ≡ 7 → ⊥) ↔ ((l : Lookup) × WriterGives b l)
+Accepts = (b : List ℕ) → AreBytes b → (c : Columns) (r : Answer) (left : Columns) → Reading b c r left → (numberSaid r ≡ 7 → ⊥) ↔ ((l : Lookup) × WriterGives b l)
 
 -- ---- both ways round
 -- the lookup that an answer says, its list at the start of the columns; a refusal says an empty one
@@ -89,14 +77,14 @@ ReadsBack =
 -- Read and then written, in an area of their length or more, bytes are as they were.
 abbrev pub WritesBack : Type 0
 WritesBack =
-    (b : List ℕ) → Bytes b → (c : Columns) (r : Answer) (left : Columns) → Reading b c r left → numberSaid r ≡ 0
+    (b : List ℕ) → AreBytes b → (c : Columns) (r : Answer) (left : Columns) → Reading b c r left → numberSaid r ≡ 0
     → (area : List ℕ) → length b ≤ length area
     → (w : Written) (out : List ℕ) → Writing (lookupSaid r left) area w out
     → (write.numberSaid w ≡ 0) × (write.lengthSaid w ≡ length b) × (take (length b) out ≡ b)
 
 -- The first glyphs of what is read do not fall.
 abbrev pub NeverFall : Type 0
-NeverFall = (b : List ℕ) → Bytes b → (c : Columns) (r : Answer) (left : Columns) → Reading b c r left → numberSaid r ≡ 0 → rising 0 (firsts (lookupSaid r left)) ≡ true
+NeverFall = (b : List ℕ) → AreBytes b → (c : Columns) (r : Answer) (left : Columns) → Reading b c r left → numberSaid r ≡ 0 → rising 0 (firsts (lookupSaid r left)) ≡ true
 
 -- ---- an empty list of ligatures
 -- "An empty ligature list has the same bytes for both component numbers"

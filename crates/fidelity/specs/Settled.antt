@@ -9,7 +9,7 @@ use Rattle.layouts.specs.Lookups.{Lookup}
 use Rattle.scanning.specs.Exact.{asRead}
 use Rattle.reading.specs.declared.Answer.{Answer}
 use Rattle.reading.specs.Read.{Columns, nothing, found, numberSaid, outcomeSaid, Reading}
-use Rattle.fidelity.specs.Reading.{Bytes, WriterGives}
+use Rattle.fidelity.specs.Reading.{AreBytes, WriterGives}
 
 -- each column has a place for all that goes into it: it is not "shorter than the answer"
 pub record Room (l : Lookup) (c : Columns) : Type 0 where
@@ -32,10 +32,10 @@ pub data Settled (b : List ℕ) (c : Columns) (r : Answer) (left : Columns) : Ty
 
 -- The call's statement allows just these answers.
 abbrev pub ByTheWriters : Type 0
-ByTheWriters = (b : List ℕ) → Bytes b → (c : Columns) (r : Answer) (left : Columns) → Reading b c r left ↔ Settled b c r left
+ByTheWriters = (b : List ℕ) → AreBytes b → (c : Columns) (r : Answer) (left : Columns) → Reading b c r left ↔ Settled b c r left
 
 -- So an answer that is one of these is the call's, and the columns are those that it leaves.
 abbrev pub NoOther : Type 0
 NoOther =
-    (b : List ℕ) → Bytes b → (c : Columns) (r : Answer) (left : Columns) → Reading b c r left
+    (b : List ℕ) → AreBytes b → (c : Columns) (r : Answer) (left : Columns) → Reading b c r left
     → (u : Answer) (other : Columns) → Settled b c u other → (u ≡ r) × (other ≡ left)

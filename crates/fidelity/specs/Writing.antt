@@ -1,15 +1,15 @@
--- What writing a lookup promises, of every lookup of either kind, by the calls' statement (`Writing` of crate layouts): `OneAnswer`, `RefusedStays`, `SmallestNumber`, `PastTheAnswer`; `behind`, `changes` the numbers that differ from the one before; `sizeOf`, `Size` how many bytes;
+-- What writing a lookup promises, of every lookup of either kind, by the calls' statement (`Writing` of crate layouts): `Promised` what every call promises (`Kept` of crate refusals), `PastTheAnswer`; `behind`, `changes` the numbers that differ from the one before; `sizeOf`, `Size` how many bytes;
 -- `Lent`, `Even`, `OffsetFrom` what the limits are said of, `mostSingle`, `SingleLimit`, `mostInSet`, `OneSetLimit`, `mostAlone`, `LoneRuleLimit` from which number on 5 is given; `formatOf`, `Headed`, `coveredIn`, `covered`, `Covered`, `EveryOffset` what is found by following the offsets that were written.
 -- Assumes nothing.
 use mathlib.Core.Path.{_≡_}
 use mathlib.Core.Bool.{true, cond}
 use mathlib.Core.Logic.{_↔_}
 use mathlib.Core.List.{List, [], _∷_}
-use Prim.Native.Nat.{ℕ, _+_, _*_, _<_, _≤_}
+use Prim.Native.Nat.{ℕ, _+_, _*_, _<_}
 use lib.Dec.{eqb}
 use lib.ListN.{length, getD}
 use Rattle.laws.specs.Lists.{Past}
-use Rattle.laws.specs.Rows.{Has}
+use Rattle.refusals.specs.Promises.{Kept}
 use Rattle.words.specs.Words.{wordsAt}
 use Rattle.layouts.specs.declared.Kind.{Kind}
 use Rattle.layouts.specs.declared.Kind.the-variants.{Single, Ligature}
@@ -19,21 +19,9 @@ use Rattle.layouts.specs.Written.{rowsOf, numberSaid, lengthSaid, Writing}
 use Rattle.reading.specs.Read.{typeOf}
 use Rattle.fidelity.specs.Followed.{coverageAt, followed}
 
--- Any two answers that the statement allows are equal, and so are the areas that they leave.
-abbrev pub OneAnswer : Type 0
-OneAnswer = (l : Lookup) (area : List ℕ) (r u : Written) (left other : List ℕ) → Writing l area r left → Writing l area u other → (r ≡ u) × (left ≡ other)
-
--- A lookup that is refused alters no byte, and its length is answered 0.
-abbrev pub RefusedStays : Type 0
-RefusedStays = (l : Lookup) (area : List ℕ) (r : Written) (left : List ℕ) → Writing l area r left → (numberSaid r ≡ 0 → ⊥) → (left ≡ area) × (lengthSaid r ≡ 0)
-
--- Where several refusals apply, the smallest number is given: a number that is given is that of a row of the table that applies; and where a row
--- applies, a number is given, and no larger one. So a lookup is written exactly when no row applies.
-abbrev pub SmallestNumber : Type 0
-SmallestNumber =
-    (l : Lookup) (area : List ℕ) (r : Written) (left : List ℕ) → Writing l area r left
-    → ((numberSaid r ≡ 0 → ⊥) → Has (rowsOf l (length area)) (numberSaid r) true)
-    × ((n : ℕ) → Has (rowsOf l (length area)) n true → (0 < numberSaid r) × (numberSaid r ≤ n))
+-- What every call promises, of these two: one answer; a refusal alters no byte and answers a length of 0; the smallest number that applies is given.
+abbrev pub Promised : Type 0
+Promised = Kept Writing numberSaid (λ l area. rowsOf l (length area)) (λ r _. lengthSaid r ≡ 0)
 
 -- The area past the answered length is untouched, all of it where the lookup is refused, and it neither grows nor shrinks.
 abbrev pub PastTheAnswer : Type 0

@@ -16,11 +16,10 @@ use Rattle.laws.specs.Lists.{those}
 use Rattle.letters.specs.Actions.{repeating}
 use Rattle.fitting.specs.declared.Fit.{Fit}
 use Rattle.fitting.specs.Fit.{count, copies, overlap, start, looseFit, fitOf}
-use Rattle.fitting.proofs.FitLaws as fit
-use Rattle.fitting.proofs.FitLaws.{Above, both-pos, le-not-lt, nle-lt, not-twice, one-at-least, over, fit-le, fit-none, fit-one, fit-even, fit-left}
+use Rattle.fitting.proofs.FitLaws.{tight, Above, both-pos, le-not-lt, nle-lt, not-twice, one-at-least, over, fit-le, fit-none, fit-one, fit-even, fit-left}
 use Rattle.runs.specs.Records.{Record}
 use Rattle.runs.specs.Runs.{acts, run, sum, room, repeatingWidth, tiles}
-use Rattle.tiling.specs.Tiles.{Covers, tight, Laps, opening}
+use Rattle.tiling.specs.Tiles.{Covers, tooWide, Laps, opening}
 
 -- what is reckoned is c copies that overlap by o, as the promises say them, and no other overlap is
 pub record Reckoned (room w : ℤ) (t c o : ℕ) : Type 0 where
@@ -50,7 +49,7 @@ covers-one room w t c d x y = by (sign w)
 
 -- ---- tiles that do not exceed the room
 module _ (room w : ℤ) (t n : ℕ) where
-  loose : fitOf room w t ≡ looseFit room n → tight room w n ≡ false → Covers room w t n → Reckoned room w t n 0
+  loose : fitOf room w t ≡ looseFit room n → tooWide room w n ≡ false → Covers room w t n → Reckoned room w t n 0
   unfolding fitOf looseFit
   loose e f v =
       let half : quotZ room (pos 2) ≡ opening room w n = rw f in
@@ -118,7 +117,7 @@ module _ (r v t : ℕ) (p : 0 < v) (q : v < r) where
     some : 0 < D
     some = omega (arith, mul-lt-mul-of-pos-right {m = 0} (one-at-least r v p q) s)
 
-    exceeds : tight (pos r) (pos v) (r / v) ≡ true
+    exceeds : tooWide (pos r) (pos v) (r / v) ≡ true
     exceeds = rw (lt-ltb 0 (r / v) (one-at-least r v p q)) (lt-ltb r ((r / v + 1) * v) (over r v p q))
 
     left-is : (r / v + 1) * v ≡ r + (v - r % v)
@@ -138,7 +137,7 @@ module _ (r v t : ℕ) (p : 0 < v) (q : v < r) where
         omega (arith, lt-of-mul-lt-mul-right D a, lt-of-mul-lt-mul-right D b)
 
     squeeze : Reckoned (pos r) (pos v) t (r / v) o
-    unfolding fitOf fit.tight
+    unfolding fitOf tight
     squeeze =
         let e = fit-left r v p q t s m in
         let from : pos 0 ≡ opening (pos r) (pos v) (r / v) = rw exceeds in

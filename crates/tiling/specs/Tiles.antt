@@ -1,4 +1,4 @@
--- What stretching promises of the copies of a run and of where its tiles stand, said again in words of its own: not by the recursion of the work, but by places and by what the numbers are for. Of numbers: `Covers` how many copies a run has; `tight` whether its tiles exceed the room; `Laps` by how much copies overlap; `opening` where the offsets start. Of the line, in the order of the work: `total` a sum over places; `tileFirst`, `begins` where a run begins;
+-- What stretching promises of the copies of a run and of where its tiles stand, said again in words of its own: not by the recursion of the work, but by places and by what the numbers are for. Of numbers: `Covers` how many copies a run has; `tooWide` whether its tiles exceed the room; `Laps` by how much copies overlap; `opening` where the offsets start. Of the line, in the order of the work: `total` a sum over places; `tileFirst`, `begins` where a run begins;
 -- `Copied`, `Lapped` those numbers of a run; `Numbered` of each; `OneNumber` that there is one of each, and no other; `addedAt` how many records a run adds; `CountByPlaces` how many records there are. Of the output: `comes` the record that comes k-th; `OthersCome` where records come that are no tiles; `extra`, `spot` how many copies a tile has, and where it comes; `leftOf`, `rightOf`, `beside` where a record stands beside its neighbour; `RunStands`, `TilesStand` where the tiles of each run stand.
 -- Assumes nothing.
 use mathlib.Core.Path.{_≡_}
@@ -25,18 +25,18 @@ pub record Covers (room w : ℤ) (tiles c : ℕ) : Type 0 where
   pub once : w ≤ℤ pos 0 → c ≡ cond (ltZ w room && ltb 0 tiles) 1 0
 
 -- there are copies, and the tiles exceed the room with them
-abbrev pub tight : ℤ → ℤ → ℕ → Bool
-tight room w c = ltb 0 c && ltZ room (pos (c + 1) *ℤ w)
+abbrev pub tooWide : ℤ → ℤ → ℕ → Bool
+tooWide room w c = ltb 0 c && ltZ room (pos (c + 1) *ℤ w)
 
 -- each copy of each tile overlaps by o, so that all together are narrower by o × c × tiles: the largest o with which tiles that exceed the room still cover it; 0, if they do not exceed it
 pub record Laps (room w : ℤ) (tiles c o : ℕ) : Type 0 where
-  pub covered : tight room w c ≡ true → (room +ℤ pos (o * (c * tiles))) ≤ℤ (pos (c + 1) *ℤ w)
-  pub largest : tight room w c ≡ true → (pos (c + 1) *ℤ w) <ℤ (room +ℤ pos ((o + 1) * (c * tiles)))
-  pub none : tight room w c ≡ false → o ≡ 0
+  pub covered : tooWide room w c ≡ true → (room +ℤ pos (o * (c * tiles))) ≤ℤ (pos (c + 1) *ℤ w)
+  pub largest : tooWide room w c ≡ true → (pos (c + 1) *ℤ w) <ℤ (room +ℤ pos ((o + 1) * (c * tiles)))
+  pub none : tooWide room w c ≡ false → o ≡ 0
 
 -- the offsets start at 0, if the tiles exceed the room, else at half of it, towards zero
 abbrev pub opening : ℤ → ℤ → ℕ → ℤ
-opening room w c = cond (tight room w c) (pos 0) (quotZ room (pos 2))
+opening room w c = cond (tooWide room w c) (pos 0) (quotZ room (pos 2))
 
 -- ---- places of the line, in the order of the work
 -- f 0 + f 1 and so on, n of them

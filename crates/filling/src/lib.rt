@@ -53,9 +53,7 @@ fn fill_rules(
 pub fn fill_sets(n: usize, s: usize, bytes: &[u8], components: &mut [u16], ligatures: &mut [u16])
     requires { ⌜ (2 ≤ n) × (n ≤ 3) × (s < 65536) × (endAt n (leadsAt s (now bytes)) (now bytes) (18 + 4 * s) ≤ length (now bytes)) ⌝ }
     requires { ⌜ (length (flat (allRules n s (now bytes))) ≤ length (now components)) × (length (allRules n s (now bytes)) ≤ length (now ligatures)) ⌝ }
-    ensures { λ _.
-        let rules = allRules n s (now (bytes .entry)) in
-        ⌜ Filled rules (now (components .entry)) 0 (now (ligatures .entry)) 0 (now (components .exit)) (now (ligatures .exit)) ⌝ }
+    ensures { λ _. ⌜ Filled (allRules n s (now (bytes .entry))) (now (components .entry)) 0 (now (ligatures .entry)) 0 (now (components .exit)) (now (ligatures .exit)) ⌝ }
 {
     let mut left = s;
     let mut leads = 18 + 2 * s;

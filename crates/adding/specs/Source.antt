@@ -1,10 +1,12 @@
--- Rows as they are lent to be made a lookup: `Source` the rows of a list, or of one form; `Lent` what is asked of them; `rulesOf` their rules in a font, in order; `entryOf` their entry; `Roomy` what is asked of a draft.
+-- Rows as they are lent to be made a lookup: `Source`, `sourceOf` the rows of a list, or of one form; `sourceNow`, `sourceLent` the same from columns that a call is lent, as a `requires` and as an `ensures` has them; `Lent` what is asked of them; `rulesOf` their rules in a font, in order; `entryOf` their entry; `Roomy` what is asked of a draft.
 -- Assumes nothing.
 use mathlib.Core.Bool.{cond}
 use mathlib.Core.List.{List, [], _∷_}
 use Prim.Native.Nat.{ℕ, _+_, _*_, _<_, _≤_}
 use lib.Dec.{eqb}
 use lib.ListN.{length}
+use denote.Ref.{now}
+use Rattle.laws.specs.Lent.{Slice, Borrowed}
 use Rattle.layouts.specs.declared.Kind.{Kind}
 use Rattle.layouts.specs.Tables.{Rule}
 use Rattle.layouts.specs.Lookups.{listed}
@@ -24,6 +26,13 @@ pub record Source : Type 0 where
 
 abbrev pub sourceOf : ℕ → ℕ → ℕ → ℕ → List ℕ → List ℕ → Source
 sourceOf count n each k components ligatures = record { count = count; n = n; each = each; k = k; components = components; ligatures = ligatures }
+
+abbrev pub sourceNow : ℕ → ℕ → ℕ → ℕ → Slice ℕ → Slice ℕ → Source
+sourceNow count n each k components ligatures = sourceOf count n each k (now components) (now ligatures)
+
+-- rows are lent to be read, so they are the same at both moments
+abbrev pub sourceLent : ℕ → ℕ → ℕ → ℕ → Borrowed ℕ → Borrowed ℕ → Source
+sourceLent count n each k components ligatures = sourceNow count n each k (components .entry) (ligatures .entry)
 
 -- the columns have them, and they are at most 1,024
 pub record Lent (s : Source) : Type 0 where

@@ -4,13 +4,13 @@ ghost use mathlib.Core.List.{[], _∷_, map};
 ghost use Prim.Native.Nat.{_*_, _≤_};
 ghost use lib.ListN.{length};
 ghost use Rattle.layouts.specs.Lookups.{listed};
-ghost use Rattle.fonts.specs.Font.{fontOf, Sound};
+ghost use Rattle.fonts.specs.Font.{fontNow, fontLent, Sound};
 ghost use Rattle.packing.specs.Packed.{unpacked};
 ghost use Rattle.synthesis.specs.Rules.{kindOf};
 ghost use Rattle.synthesis.specs.Made.{Collected};
 ghost use Rattle.drafts.specs.Entries.{entry, ruleLimit, most};
 ghost use Rattle.drafts.specs.Drafted.{Added};
-ghost use Rattle.adding.specs.Source.{sourceOf, Lent, rulesOf, entryOf, Roomy};
+ghost use Rattle.adding.specs.Source.{sourceNow, sourceLent, Lent, rulesOf, entryOf, Roomy};
 use drafts::Draft;
 use layouts::Kind;
 
@@ -29,8 +29,10 @@ fn order_rules(
     ligatures: &[u16],
     rules: &mut [u64],
 ) -> usize
-    requires { ⌜ Sound (fontOf (now codes) (now glyphs)) × Lent (sourceOf count n each k (now components) (now ligatures)) × (count ≤ length (now rules)) ⌝ }
-    ensures { λ r. ⌜ Collected (rulesOf (fontOf (now (codes .entry)) (now (glyphs .entry))) (sourceOf count n each k (now (components .entry)) (now (ligatures .entry)))) (now (rules .entry)) r (now (rules .exit)) ⌝ }
+    requires { ⌜ Sound (fontNow codes glyphs) × Lent (sourceNow count n each k components ligatures) × (count ≤ length (now rules)) ⌝ }
+    ensures { λ r.
+        let ordered = rulesOf (fontLent codes glyphs) (sourceLent count n each k components ligatures) in
+        ⌜ Collected ordered (now (rules .entry)) r (now (rules .exit)) ⌝ }
 {
     let made = synthesis::collect(
         codes,
@@ -128,8 +130,10 @@ fn synthesize_in(
     rules: &mut [u64],
     scratch: &mut [u8],
 ) -> Draft
-    requires { ⌜ Sound (fontOf (now codes) (now glyphs)) × Lent (sourceOf count n each k (now components) (now ligatures)) × Roomy (kindOf n) draft (now scratch) × (length (now rules) ≡ ruleLimit) ⌝ }
-    ensures { λ r. ⌜ Added (entryOf mask flags (kindOf n) (rulesOf (fontOf (now (codes .entry)) (now (glyphs .entry))) (sourceOf count n each k (now (components .entry)) (now (ligatures .entry))))) (most (kindOf n)) draft (now (scratch .entry)) r (now (scratch .exit)) ⌝ }
+    requires { ⌜ Sound (fontNow codes glyphs) × Lent (sourceNow count n each k components ligatures) × Roomy (kindOf n) draft (now scratch) × (length (now rules) ≡ ruleLimit) ⌝ }
+    ensures { λ r.
+        let ordered = rulesOf (fontLent codes glyphs) (sourceLent count n each k components ligatures) in
+        ⌜ Added (entryOf mask flags (kindOf n) ordered) (most (kindOf n)) draft (now (scratch .entry)) r (now (scratch .exit)) ⌝ }
 {
     let made = order_rules(
         codes,
@@ -163,8 +167,10 @@ pub fn synthesize_lookup(
     ligatures: &[u16],
     scratch: &mut [u8],
 ) -> Draft
-    requires { ⌜ Sound (fontOf (now codes) (now glyphs)) × Lent (sourceOf count n each k (now components) (now ligatures)) × Roomy (kindOf n) draft (now scratch) ⌝ }
-    ensures { λ r. ⌜ Added (entry mask flags (kindOf n) (rulesOf (fontOf (now (codes .entry)) (now (glyphs .entry))) (sourceOf count n each k (now (components .entry)) (now (ligatures .entry))))) (most (kindOf n)) draft (now (scratch .entry)) r (now (scratch .exit)) ⌝ }
+    requires { ⌜ Sound (fontNow codes glyphs) × Lent (sourceNow count n each k components ligatures) × Roomy (kindOf n) draft (now scratch) ⌝ }
+    ensures { λ r.
+        let ordered = rulesOf (fontLent codes glyphs) (sourceLent count n each k components ligatures) in
+        ⌜ Added (entry mask flags (kindOf n) ordered) (most (kindOf n)) draft (now (scratch .entry)) r (now (scratch .exit)) ⌝ }
 {
     if mask == 0 {
         return draft;

@@ -3,7 +3,7 @@ ghost use mathlib.Core.Path.{_≡_};
 ghost use mathlib.Core.List.{List};
 ghost use Prim.Native.Nat.{ℕ, _≤_, min};
 ghost use lib.ListN.{length};
-ghost use Rattle.texts.specs.Form.{Close, whole};
+ghost use Rattle.texts.specs.Form.{Close, whole, columnsLent};
 ghost use Rattle.printing.specs.Writing.{Wrote, filled};
 ghost use Rattle.answers.specs.Output.{lineText, output, linesText, answerText, Even};
 use lines::Manner;
@@ -30,7 +30,7 @@ fn line(
     out: &mut [u8],
 ) -> usize
     requires { ⌜ Even (length (now types)) (now codes) (now categories) (now base) (now actions) (now masks) ⌝ }
-    ensures { λ r. ⌜ Wrote (now (out .exit)) r ≡ filled (now (out .entry)) (lineText (now (codes .entry)) (now (widths .entry)) (now (types .entry)) (now (categories .entry))) ⌝ }
+    ensures { λ r. ⌜ Wrote (now (out .exit)) r ≡ filled (now (out .entry)) (columnsLent lineText codes widths types categories .entry) ⌝ }
 {
     let none = [0u8; 0];
     let verdict = lines::join_line(
@@ -69,7 +69,7 @@ fn lined(
     out: &mut [u8],
 ) -> usize
     requires { ⌜ (512 ≤ length (now base)) × (512 ≤ length (now actions)) × (512 ≤ length (now masks)) ⌝ }
-    ensures { λ r. ⌜ Wrote (now (out .exit)) r ≡ filled (now (out .entry)) (linesText n (now (codes .entry)) (now (widths .entry)) (now (types .entry)) (now (categories .entry))) ⌝ }
+    ensures { λ r. ⌜ Wrote (now (out .exit)) r ≡ filled (now (out .entry)) (columnsLent (linesText n) codes widths types categories .entry) ⌝ }
 {
     let most = shorter(
         LIMIT,
@@ -102,7 +102,7 @@ fn lend(
     categories: &[u8],
     out: &mut [u8],
 ) -> usize
-    ensures { λ r. ⌜ Wrote (now (out .exit)) r ≡ filled (now (out .entry)) (linesText n (now (codes .entry)) (now (widths .entry)) (now (types .entry)) (now (categories .entry))) ⌝ }
+    ensures { λ r. ⌜ Wrote (now (out .exit)) r ≡ filled (now (out .entry)) (columnsLent (linesText n) codes widths types categories .entry) ⌝ }
 {
     let base = [0u32; 512];
     let mut actions = [0u8; 512];
@@ -130,8 +130,10 @@ pub fn answer(
     categories: &[u8],
     out: &mut [u8],
 ) -> usize
-    ensures columns { λ r. ⌜ Wrote (now (out .exit)) r ≡ filled (now (out .entry)) (answerText told (now (codes .entry)) (now (widths .entry)) (now (types .entry)) (now (categories .entry))) ⌝ }
-    ensures text { λ r. ⌜ ((text c w t g : List ℕ) → 512 ≤ length c → 512 ≤ length w → 512 ≤ length t → 512 ≤ length g → Close told (now (codes .entry)) (now (widths .entry)) (now (types .entry)) (now (categories .entry)) ≡ whole text c w t g → Wrote (now (out .exit)) r ≡ filled (now (out .entry)) (output text)) ⌝ }
+    ensures columns { λ r. ⌜ Wrote (now (out .exit)) r ≡ filled (now (out .entry)) (columnsLent (answerText told) codes widths types categories .entry) ⌝ }
+    ensures text { λ r.
+        let lent = columnsLent (Close told) codes widths types categories .entry in
+        ⌜ ((text c w t g : List ℕ) → 512 ≤ length c → 512 ≤ length w → 512 ≤ length t → 512 ≤ length g → lent ≡ whole text c w t g → Wrote (now (out .exit)) r ≡ filled (now (out .entry)) (output text)) ⌝ }
 {
     match told {
         Told::Unreadable => printing::unreadable(out),

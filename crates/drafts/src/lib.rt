@@ -4,7 +4,7 @@ ghost use mathlib.Core.List.{[], _∷_};
 ghost use mathlib.Core.Bool.{cond};
 ghost use Prim.Native.Nat.{_+_, _<_};
 ghost use lib.Dec.{eqb};
-ghost use Rattle.layouts.specs.Lookups.{lookupOf};
+ghost use Rattle.layouts.specs.Lookups.{lookupLent};
 ghost use Rattle.layouts.specs.Written.{Writing};
 ghost use Rattle.drafts.specs.Entries.{most};
 ghost use Rattle.drafts.specs.Drafted.{begun, noted, Fit, Added};
@@ -57,7 +57,9 @@ fn serialize(
     substitutes: &[u16],
     area: &mut [u8],
 ) -> Written
-    ensures { λ r. ⌜ Writing (lookupOf flags kind (now (glyphs .entry)) (now (substitutes .entry))) (now (area .entry)) r (now (area .exit)) ⌝ }
+    ensures { λ r.
+        let l = lookupLent flags kind glyphs substitutes in
+        ⌜ Writing l (now (area .entry)) r (now (area .exit)) ⌝ }
 {
     match kind {
         Kind::Single => singles::serialize_single_lookup(glyphs, substitutes, flags, area),
@@ -78,7 +80,9 @@ pub fn push(
     scratch: &mut [u8],
 ) -> Draft
     requires { ⌜ Fit kind (now glyphs) (now substitutes) draft (now scratch) ⌝ }
-    ensures { λ r. ⌜ Added (record { mask = mask; lookup = lookupOf flags kind (now (glyphs .entry)) (now (substitutes .entry)) } ∷ []) (most kind) draft (now (scratch .entry)) r (now (scratch .exit)) ⌝ }
+    ensures { λ r.
+        let l = lookupLent flags kind glyphs substitutes in
+        ⌜ Added (record { mask = mask; lookup = l } ∷ []) (most kind) draft (now (scratch .entry)) r (now (scratch .exit)) ⌝ }
 {
     let end = draft.end;
     let written = serialize(kind, flags, glyphs, substitutes, &mut scratch[end..]);
@@ -96,7 +100,9 @@ pub fn add_direct_lookup(
     scratch: &mut [u8],
 ) -> Draft
     requires { ⌜ Fit kind (now glyphs) (now substitutes) draft (now scratch) ⌝ }
-    ensures { λ r. ⌜ Added (cond (eqb mask 0) [] (record { mask = mask; lookup = lookupOf flags kind (now (glyphs .entry)) (now (substitutes .entry)) } ∷ [])) (most kind) draft (now (scratch .entry)) r (now (scratch .exit)) ⌝ }
+    ensures { λ r.
+        let l = lookupLent flags kind glyphs substitutes in
+        ⌜ Added (cond (eqb mask 0) [] (record { mask = mask; lookup = l } ∷ [])) (most kind) draft (now (scratch .entry)) r (now (scratch .exit)) ⌝ }
 {
     if mask == 0 {
         return draft;

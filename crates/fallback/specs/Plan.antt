@@ -1,10 +1,12 @@
--- The fallback plan (document 01: "The plan follows 001's order, zero masks skipped"): `Ligatures`, `Inputs`, `inputsOf` what is lent; `formed`, `fourForms`, `shaped`, `ligated` the entry of a form, and that of a list of ligatures; `unicode` the seven entries by Unicode's presentation forms; `plan` the entries of a plan, Windows-1256 second.
+-- The fallback plan (document 01: "The plan follows 001's order, zero masks skipped"): `Ligatures`, `Inputs`, `inputsOf` what is lent; `inputsNow`, `inputsLent` the same from the parameters of a call, as a `requires` and as an `ensures` has them; `formed`, `fourForms`, `shaped`, `ligated` the entry of a form, and that of a list of ligatures; `unicode` the seven entries by Unicode's presentation forms; `plan` the entries of a plan, Windows-1256 second.
 -- Assumes nothing.
 use mathlib.Core.Bool.{cond}
 use mathlib.Core.List.{List, _++_}
 use Prim.Native.Nat.{ℕ}
 use lib.Dec.{eqb}
 use lib.ListN.{length, getD}
+use denote.Ref.{now}
+use Rattle.laws.specs.Lent.{Slice, Borrowed}
 use Rattle.layouts.specs.declared.Kind.the-variants.{Single, Ligature}
 use Rattle.fonts.specs.Font.{Font, fontOf}
 use Rattle.synthesis.specs.Rules.{rows, ruled, inOrder}
@@ -39,6 +41,19 @@ inputsOf masks codes glyphs shaping forms components3 ligatures3 components2 lig
       twos = record { components = components2; ligatures = ligatures2 };
       marks = record { components = markComponents; ligatures = markLigatures };
     }
+
+abbrev pub inputsNow : List ℕ → Slice ℕ → Slice ℕ → Slice ℕ → Slice ℕ → Slice ℕ → Slice ℕ → Slice ℕ → Slice ℕ → Slice ℕ → Slice ℕ → Inputs
+inputsNow masks codes glyphs shaping forms components3 ligatures3 components2 ligatures2 markComponents markLigatures =
+    inputsOf masks (now codes) (now glyphs) (now shaping) (now forms) (now components3) (now ligatures3) (now components2) (now ligatures2)
+    (now markComponents)
+    (now markLigatures)
+
+-- inputs are lent to be read, so they are the same at both moments
+abbrev pub inputsLent : List ℕ → Borrowed ℕ → Borrowed ℕ → Borrowed ℕ → Borrowed ℕ → Borrowed ℕ → Borrowed ℕ → Borrowed ℕ → Borrowed ℕ → Borrowed ℕ → Borrowed ℕ → Inputs
+inputsLent masks codes glyphs shaping forms components3 ligatures3 components2 ligatures2 markComponents markLigatures =
+    inputsNow masks (codes .entry) (glyphs .entry) (shaping .entry) (forms .entry) (components3 .entry) (ligatures3 .entry) (components2 .entry) (ligatures2 .entry)
+    (markComponents .entry)
+    (markLigatures .entry)
 
 -- "A shaping row has the forms init, medi, fina, isol": the lookup of form k, under the mask at the same place
 abbrev pub formed : List ℕ → Font → List ℕ → List ℕ → ℕ → List Entry

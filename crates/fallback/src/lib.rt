@@ -5,11 +5,11 @@ ghost use Prim.Native.Nat.{_*_, _≤_};
 ghost use lib.ListN.{length};
 ghost use Rattle.laws.specs.Rows.{first};
 ghost use Rattle.refusals.specs.Numbers.{said};
-ghost use Rattle.fonts.specs.Font.{fontOf, Sound};
+ghost use Rattle.fonts.specs.Font.{fontNow, fontLent, Sound};
 ghost use Rattle.layouts.specs.declared.Kind.the-variants.{Single};
 ghost use Rattle.drafts.specs.Entries.{ruleLimit, most, longestPlan};
 ghost use Rattle.drafts.specs.Drafted.{Reached};
-ghost use Rattle.fallback.specs.Plan.{inputsOf, fourForms, unicode, plan};
+ghost use Rattle.fallback.specs.Plan.{inputsNow, inputsLent, fourForms, unicode, plan};
 ghost use Rattle.fallback.specs.Planned.{refusedBy, lentRows, Settled, Settles, Passed, Planning};
 ghost use Rattle.fallback.specs.Switch.{fallbackOn};
 use drafts::Draft;
@@ -61,7 +61,9 @@ impl FallbackPlan {
         mark_ligatures: &[u16],
         area: &mut [u8],
     ) -> FallbackPlan
-        ensures { λ r. ⌜ Planning (inputsOf masks (now (codes .entry)) (now (glyphs .entry)) (now (shaping .entry)) (now (forms .entry)) (now («three_components» .entry)) (now («three_ligatures» .entry)) (now («two_components» .entry)) (now («two_ligatures» .entry)) (now («mark_components» .entry)) (now («mark_ligatures» .entry))) (now (area .entry)) r (now (area .exit)) ⌝ }
+        ensures { λ r.
+            let i = inputsLent masks codes glyphs shaping forms «three_components» «three_ligatures» «two_components» «two_ligatures» «mark_components» «mark_ligatures» in
+            ⌜ Planning i (now (area .entry)) r (now (area .exit)) ⌝ }
     {
         let verdict = refused(
             codes,
@@ -130,7 +132,9 @@ fn refused(
     mark_components: &[u16],
     mark_ligatures: &[u16],
 ) -> Verdict
-    ensures { λ r. ⌜ said r ≡ first (lentRows (inputsOf [] (now (codes .entry)) (now (glyphs .entry)) (now (shaping .entry)) (now (forms .entry)) (now («three_components» .entry)) (now («three_ligatures» .entry)) (now («two_components» .entry)) (now («two_ligatures» .entry)) (now («mark_components» .entry)) (now («mark_ligatures» .entry)))) ⌝ }
+    ensures { λ r.
+        let i = inputsLent [] codes glyphs shaping forms «three_components» «three_ligatures» «two_components» «two_ligatures» «mark_components» «mark_ligatures» in
+        ⌜ said r ≡ first (lentRows i) ⌝ }
 {
     let even = (codes.len() == glyphs.len())
         & (ligatures::flat(forms.len(), shaping.len(), 4)
@@ -155,8 +159,8 @@ fn add_forms(
     forms: &[u16],
     scratch: &mut [u8],
 ) -> Draft
-    requires { ⌜ Sound (fontOf (now codes) (now glyphs)) × (length (now forms) ≡ length (now shaping) * 4) × (length (now shaping) ≤ ruleLimit) × (length (now scratch) ≡ longestPlan) ⌝ }
-    ensures { λ r. ⌜ Reached (fourForms masks (fontOf (now (codes .entry)) (now (glyphs .entry))) (now (shaping .entry)) (now (forms .entry))) 4 (4 * most Single) longestPlan r (now (scratch .exit)) ⌝ }
+    requires { ⌜ Sound (fontNow codes glyphs) × (length (now forms) ≡ length (now shaping) * 4) × (length (now shaping) ≤ ruleLimit) × (length (now scratch) ≡ longestPlan) ⌝ }
+    ensures { λ r. ⌜ Reached (fourForms masks (fontLent codes glyphs) (now (shaping .entry)) (now (forms .entry))) 4 (4 * most Single) longestPlan r (now (scratch .exit)) ⌝ }
 {
     let mut draft = Draft::new();
     let mut k = 0;
@@ -195,8 +199,12 @@ fn new_unicode(
     mark_ligatures: &[u16],
     scratch: &mut [u8],
 ) -> Draft
-    requires { ⌜ Passed (inputsOf masks (now codes) (now glyphs) (now shaping) (now forms) (now «three_components») (now «three_ligatures») (now «two_components») (now «two_ligatures») (now «mark_components») (now «mark_ligatures»)) (now scratch) ⌝ }
-    ensures { λ r. ⌜ Reached (unicode (inputsOf masks (now (codes .entry)) (now (glyphs .entry)) (now (shaping .entry)) (now (forms .entry)) (now («three_components» .entry)) (now («three_ligatures» .entry)) (now («two_components» .entry)) (now («two_ligatures» .entry)) (now («mark_components» .entry)) (now («mark_ligatures» .entry)))) 7 longestPlan longestPlan r (now (scratch .exit)) ⌝ }
+    requires { ⌜ Passed
+        (inputsNow masks codes glyphs shaping forms «three_components» «three_ligatures» «two_components» «two_ligatures» «mark_components» «mark_ligatures»)
+        (now scratch) ⌝ }
+    ensures { λ r.
+        let i = inputsLent masks codes glyphs shaping forms «three_components» «three_ligatures» «two_components» «two_ligatures» «mark_components» «mark_ligatures» in
+        ⌜ Reached (unicode i) 7 longestPlan longestPlan r (now (scratch .exit)) ⌝ }
 {
     let forms_in = add_forms(masks, codes, glyphs, shaping, forms, scratch);
     let threes_in = adding::synthesize_lookup(
@@ -259,8 +267,12 @@ fn plan_in(
     scratch: &mut [u8],
     area: &mut [u8],
 ) -> FallbackPlan
-    requires { ⌜ Passed (inputsOf masks (now codes) (now glyphs) (now shaping) (now forms) (now «three_components») (now «three_ligatures») (now «two_components») (now «two_ligatures») (now «mark_components») (now «mark_ligatures»)) (now scratch) ⌝ }
-    ensures { λ r. ⌜ Settled (plan (inputsOf masks (now (codes .entry)) (now (glyphs .entry)) (now (shaping .entry)) (now (forms .entry)) (now («three_components» .entry)) (now («three_ligatures» .entry)) (now («two_components» .entry)) (now («two_ligatures» .entry)) (now («mark_components» .entry)) (now («mark_ligatures» .entry)))) (now (area .entry)) r (now (area .exit)) ⌝ }
+    requires { ⌜ Passed
+        (inputsNow masks codes glyphs shaping forms «three_components» «three_ligatures» «two_components» «two_ligatures» «mark_components» «mark_ligatures»)
+        (now scratch) ⌝ }
+    ensures { λ r.
+        let i = inputsLent masks codes glyphs shaping forms «three_components» «three_ligatures» «two_components» «two_ligatures» «mark_components» «mark_ligatures» in
+        ⌜ Settled (plan i) (now (area .entry)) r (now (area .exit)) ⌝ }
 {
     let draft = new_unicode(
         masks,

@@ -4,8 +4,8 @@ ghost use Prim.Native.Nat.{_+_, _*_, _<_, _≤_};
 ghost use lib.ListN.{length};
 ghost use Rattle.laws.specs.Lists.{pasted};
 ghost use Rattle.layouts.specs.Lookups.{flat};
-ghost use Rattle.grouping.specs.Grouped.{ruleAt, rulesAt, setsAt, endAt, leadsAt};
-ghost use Rattle.filling.specs.Filled.{Filled};
+ghost use Rattle.grouping.specs.Grouped.{ruleAt, rulesAt, endAt, leadsAt};
+ghost use Rattle.filling.specs.Filled.{allRules, Filled};
 
 // The components of the rule at byte `at`, which begins with the glyph `lead`, from place `x` of the column on.
 fn fill_rule(n: usize, lead: u16, bytes: &[u8], at: usize, components: &mut [u16], x: usize)
@@ -52,8 +52,8 @@ fn fill_rules(
 // The rules of all `s` sets, from the start of both columns.
 pub fn fill_sets(n: usize, s: usize, bytes: &[u8], components: &mut [u16], ligatures: &mut [u16])
     requires { ⌜ (2 ≤ n) × (n ≤ 3) × (s < 65536) × (endAt n (leadsAt s (now bytes)) (now bytes) (18 + 4 * s) ≤ length (now bytes)) ⌝ }
-    requires { ⌜ (length (flat (setsAt n (leadsAt s (now bytes)) (now bytes) (18 + 4 * s))) ≤ length (now components)) × (length (setsAt n (leadsAt s (now bytes)) (now bytes) (18 + 4 * s)) ≤ length (now ligatures)) ⌝ }
-    ensures { λ _. ⌜ Filled (setsAt n (leadsAt s (now (bytes .entry))) (now (bytes .entry)) (18 + 4 * s)) (now (components .entry)) 0 (now (ligatures .entry)) 0 (now (components .exit)) (now (ligatures .exit)) ⌝ }
+    requires { ⌜ (length (flat (allRules n s (now bytes))) ≤ length (now components)) × (length (allRules n s (now bytes)) ≤ length (now ligatures)) ⌝ }
+    ensures { λ _. ⌜ Filled (allRules n s (now (bytes .entry))) (now (components .entry)) 0 (now (ligatures .entry)) 0 (now (components .exit)) (now (ligatures .exit)) ⌝ }
 {
     let mut left = s;
     let mut leads = 18 + 2 * s;

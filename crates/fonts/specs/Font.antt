@@ -1,4 +1,4 @@
--- A font's map from code points to glyphs, two columns: `Font`, `fontOf` the map; `Sound` what is asked of one; `Span` the window that a search of it begins with; `absent`, `glyphAmong`, `glyphOf` the glyph of a code, or none; `numberFound` what a search answers, `Usable` what one for a rule does.
+-- A font's map from code points to glyphs, two columns: `Font`, `fontOf` the map; `fontNow`, `fontLent` the same from columns that a call is lent, as a `requires` and as an `ensures` has them; `Sound` what is asked of one; `Span` the window that a search of it begins with; `absent`, `glyphAmong`, `glyphOf` the glyph of a code, or none; `numberFound` what a search answers, `Usable` what one for a rule does.
 -- Assumes nothing.
 use mathlib.Core.Path.{_≡_}
 use mathlib.Core.Bool.{true, cond}
@@ -6,6 +6,8 @@ use mathlib.Core.List.{List, [], _∷_}
 use Prim.Native.Nat.{ℕ, _*_, _^_, _≤_, _<_}
 use lib.Dec.{eqb}
 use lib.ListN.{length}
+use denote.Ref.{now}
+use Rattle.laws.specs.Lent.{Slice, Borrowed}
 use Rattle.refusals.specs.Columns.{rising}
 use Rattle.fonts.specs.declared.Found.{Found}
 use Rattle.fonts.specs.declared.Found.the-variants.{At, Absent}
@@ -17,6 +19,13 @@ pub record Font : Type 0 where
 
 abbrev pub fontOf : List ℕ → List ℕ → Font
 fontOf codes glyphs = record { codes = codes; glyphs = glyphs }
+
+abbrev pub fontNow : Slice ℕ → Slice ℕ → Font
+fontNow codes glyphs = fontOf (now codes) (now glyphs)
+
+-- a map is lent to be read, so it is one at both moments
+abbrev pub fontLent : Borrowed ℕ → Borrowed ℕ → Font
+fontLent codes glyphs = fontNow (codes .entry) (glyphs .entry)
 
 -- a glyph for each code, and "codes rise strictly"
 pub record Sound (f : Font) : Type 0 where

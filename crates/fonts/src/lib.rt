@@ -3,7 +3,7 @@ ghost use mathlib.Core.Path.{_≡_};
 ghost use mathlib.Core.Bool.{cond};
 ghost use lib.Dec.{ltb};
 ghost use lib.ListN.{length};
-ghost use Rattle.fonts.specs.Font.{fontOf, Sound, Span, glyphOf, numberFound, Usable};
+ghost use Rattle.fonts.specs.Font.{fontNow, fontLent, Sound, Span, glyphOf, numberFound, Usable};
 use letters::Code;
 use letters::Glyph;
 
@@ -33,8 +33,8 @@ fn later(code: u32, sought: u32, base: usize, middle: usize) -> usize
 
 // The glyph of a code. `span` is that of the number of codes: a window that is a power of two halves exactly, so that a step is one comparison and one choice. The first window is the codes' first `span` or their last, which meet.
 pub fn nominal_glyph(codes: &[u32], glyphs: &[u32], span: usize, code: Code) -> Found
-    requires { ⌜ Sound (fontOf (now codes) (now glyphs)) × Span (length (now codes)) span ⌝ }
-    ensures { λ r. ⌜ numberFound r ≡ glyphOf (fontOf (now (codes .entry)) (now (glyphs .entry))) (code .0) ⌝ }
+    requires { ⌜ Sound (fontNow codes glyphs) × Span (length (now codes)) span ⌝ }
+    ensures { λ r. ⌜ numberFound r ≡ glyphOf (fontLent codes glyphs) (code .0) ⌝ }
 {
     let sought = code.0;
     let n = codes.len();
@@ -57,8 +57,8 @@ pub fn nominal_glyph(codes: &[u32], glyphs: &[u32], span: usize, code: Code) -> 
 
 // The glyph of a code that a rule may use: absent where there is none, or one above 65,535.
 pub fn glyph_for_codepoint(codes: &[u32], glyphs: &[u32], span: usize, code: Code) -> Found
-    requires { ⌜ Sound (fontOf (now codes) (now glyphs)) × Span (length (now codes)) span ⌝ }
-    ensures { λ r. ⌜ Usable r (glyphOf (fontOf (now (codes .entry)) (now (glyphs .entry))) (code .0)) ⌝ }
+    requires { ⌜ Sound (fontNow codes glyphs) × Span (length (now codes)) span ⌝ }
+    ensures { λ r. ⌜ Usable r (glyphOf (fontLent codes glyphs) (code .0)) ⌝ }
 {
     match nominal_glyph(codes, glyphs, span, code) {
         Found::At(glyph) => {

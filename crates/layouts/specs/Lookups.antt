@@ -1,10 +1,12 @@
--- A lookup and its words: `Lookup`, `lookupOf` its flags, its kind and its list, as two columns; `width` how many glyphs a rule replaces; `known` which numbers of components there are; `rules` the rules of a ligature lookup; `flat`, `ligatures`, `listed` the columns of rules, and their lookup; `laidOut`, `wordsOf` the lookup's words; `firstsIn`, `firsts` the first glyphs of its list; `fits` that numbers are of 16 bits.
+-- A lookup and its words: `Lookup`, `lookupOf` its flags, its kind and its list, as two columns; `lookupLent` the same from columns that a call is lent; `width` how many glyphs a rule replaces; `known` which numbers of components there are; `rules` the rules of a ligature lookup; `flat`, `ligatures`, `listed` the columns of rules, and their lookup; `laidOut`, `wordsOf` the lookup's words; `firstsIn`, `firsts` the first glyphs of its list; `fits` that numbers are of 16 bits.
 -- Assumes nothing.
 use mathlib.Core.Bool.{Bool, true, _&&_, _||_}
 use mathlib.Core.List.{List, [], _∷_, _++_, map}
 use Prim.Native.Nat.{ℕ}
 use lib.Dec.{eqb, ltb}
 use lib.ListN.{take, drop}
+use denote.Ref.{now}
+use Rattle.laws.specs.Lent.{Borrowed}
 use Rattle.layouts.specs.declared.Kind.{Kind}
 use Rattle.layouts.specs.declared.Kind.the-variants.{Single, Ligature}
 use Rattle.layouts.specs.Tables.{Rule, first, single, ligature}
@@ -18,6 +20,10 @@ pub record Lookup : Type 0 where
 
 abbrev pub lookupOf : ℕ → Kind → List ℕ → List ℕ → Lookup
 lookupOf flags kind glyphs substitutes = record { flags = flags; kind = kind; glyphs = glyphs; substitutes = substitutes }
+
+-- a list is lent to be read, so its lookup is one at both moments
+abbrev pub lookupLent : ℕ → Kind → Borrowed ℕ → Borrowed ℕ → Lookup
+lookupLent flags kind glyphs substitutes = lookupOf flags kind (now (glyphs .entry)) (now (substitutes .entry))
 
 -- how many glyphs a rule replaces
 abbrev pub width : Kind → ℕ

@@ -1,4 +1,4 @@
--- Words to come at three places: `Apart` that they lie apart, `placed` the area with all of them. And those of the sets of a lookup, from a rule on: `setOffsets`, `setLeaders`, `setBlocks`, and that they fit there (`SetsRoom`).
+-- Words to come at three places: `Apart` that they lie apart, `placed` the area with all of them. And those of the sets of a lookup, from a rule on: `setOffsets`, `setLeaders`, `setBlocks`, that they fit there (`SetsRoom`), and the area with them (`setsPlaced`).
 -- Assumes nothing.
 use mathlib.Core.Path.{_≡_}
 use mathlib.Core.Bool.{true}
@@ -40,3 +40,8 @@ pub record SetsRoom (n : ℕ) (components ligatures area : List ℕ) (i offset l
   pub offsets-fit : fits (setOffsets n components ligatures i set) ≡ true
   pub sets-fit : fits (setBlocks n components ligatures i) ≡ true
   pub apart : Apart area offset (setOffsets n components ligatures i set) leader (setLeaders n components ligatures i) set (setBlocks n components ligatures i)
+
+-- the area with offsets, leaders and sets at these places
+abbrev pub setsPlaced : ℕ → List ℕ → List ℕ → List ℕ → ℕ → ℕ → ℕ → ℕ → List ℕ
+setsPlaced n components ligatures area i offset leader set =
+    placed area offset (setOffsets n components ligatures i set) leader (setLeaders n components ligatures i) set (setBlocks n components ligatures i)

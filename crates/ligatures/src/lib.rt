@@ -9,12 +9,12 @@ ghost use Rattle.words.specs.Words.{Wrote};
 ghost use Rattle.layouts.specs.declared.Kind.the-variants.{Ligature};
 ghost use Rattle.layouts.specs.Tables.{ruleWords, setWords};
 ghost use Rattle.layouts.specs.Tables.{ligature as ligatureWords};
-ghost use Rattle.layouts.specs.Lookups.{rules, lookupOf, fits};
+ghost use Rattle.layouts.specs.Lookups.{rules, lookupLent, fits};
 ghost use Rattle.layouts.specs.Extents.{lastFrom};
 ghost use Rattle.layouts.specs.Extents.{longest as longestOf};
 ghost use Rattle.layouts.specs.Written.{Writing};
 ghost use Rattle.ligatures.specs.Places.{Shape, ruleAt, part, setsFrom, SetAt};
-ghost use Rattle.ligatures.specs.Sets.{placed, setOffsets, setLeaders, setBlocks, SetsRoom};
+ghost use Rattle.ligatures.specs.Sets.{setBlocks, SetsRoom, setsPlaced};
 use layouts::Written;
 use refusals::Refusal;
 
@@ -128,8 +128,11 @@ fn put_set(
     area: &mut [u8],
     at: usize,
 ) -> usize
-    requires { ⌜ Shape n (now components) (now ligatures) × (i ≤ e) × (e ≤ length (now ligatures)) × (fits (setWords n (part n (now components) (now ligatures) i e)) ≡ true) × (at + 2 * length (setWords n (part n (now components) (now ligatures) i e)) ≤ length (now area)) ⌝ }
-    ensures { λ r. ⌜ Wrote (now (area .entry)) at (setWords n (part n (now (components .entry)) (now (ligatures .entry)) i e)) (now (area .exit)) r [] ⌝ }
+    requires { let set = setWords n (part n (now components) (now ligatures) i e) in
+        ⌜ Shape n (now components) (now ligatures) × (i ≤ e) × (e ≤ length (now ligatures)) × (fits set ≡ true) × (at + 2 * length set ≤ length (now area)) ⌝ }
+    ensures { λ r.
+        let set = setWords n (part n (now (components .entry)) (now (ligatures .entry)) i e) in
+        ⌜ Wrote (now (area .entry)) at set (now (area .exit)) r [] ⌝ }
 {
     let count = e - i;
     let mut offset = words::put_u16(count as u16, area, at);
@@ -155,7 +158,9 @@ fn put_sets(
 ) -> usize
     requires { ⌜ Shape n (now components) (now ligatures) × SetsRoom n (now components) (now ligatures) (now area) 0 offsets leaders at ⌝ }
     ensures end { λ r. ⌜ r ≡ at + 2 * length (setBlocks n (now (components .entry)) (now (ligatures .entry)) 0) ⌝ }
-    ensures made { λ _. ⌜ now (area .exit) ≡ placed (now (area .entry)) offsets (setOffsets n (now (components .entry)) (now (ligatures .entry)) 0 at) leaders (setLeaders n (now (components .entry)) (now (ligatures .entry)) 0) at (setBlocks n (now (components .entry)) (now (ligatures .entry)) 0) ⌝ }
+    ensures made { λ _.
+        let filled = setsPlaced n (now (components .entry)) (now (ligatures .entry)) (now (area .entry)) 0 offsets leaders at in
+        ⌜ now (area .exit) ≡ filled ⌝ }
 {
     let mut i = 0;
     let mut offset = offsets;
@@ -180,8 +185,11 @@ fn put_lookup(
     flags: u16,
     area: &mut [u8],
 ) -> usize
-    requires { ⌜ Shape n (now components) (now ligatures) × (sets ≡ length (setsFrom n (now components) (now ligatures) 0)) × (fits (ligatureWords flags n (rules n (now components) (now ligatures))) ≡ true) × (2 * length (ligatureWords flags n (rules n (now components) (now ligatures))) ≤ length (now area)) ⌝ }
-    ensures { λ r. ⌜ Wrote (now (area .entry)) 0 (ligatureWords flags n (rules n (now (components .entry)) (now (ligatures .entry)))) (now (area .exit)) r [] ⌝ }
+    requires { let words = ligatureWords flags n (rules n (now components) (now ligatures)) in
+        ⌜ Shape n (now components) (now ligatures) × (sets ≡ length (setsFrom n (now components) (now ligatures) 0)) × (fits words ≡ true) × (2 * length words ≤ length (now area)) ⌝ }
+    ensures { λ r.
+        let words = ligatureWords flags n (rules n (now (components .entry)) (now (ligatures .entry))) in
+        ⌜ Wrote (now (area .entry)) 0 words (now (area .exit)) r [] ⌝ }
 {
     let count = sets as u16;
     let head = [4, flags, 1, 8, 1, 6 + 2 * count, count];
@@ -208,7 +216,9 @@ fn write_rules(
     area: &mut [u8],
 ) -> Written
     requires { ⌜ Shape n (now components) (now ligatures) × (length (now ligatures) ≤ 16383) ⌝ }
-    ensures { λ r. ⌜ Writing (lookupOf flags (Ligature n) (now (components .entry)) (now (ligatures .entry))) (now (area .entry)) r (now (area .exit)) ⌝ }
+    ensures { λ r.
+        let l = lookupLent flags (Ligature n) components ligatures in
+        ⌜ Writing l (now (area .entry)) r (now (area .exit)) ⌝ }
 {
     let extent = survey(n, components, ligatures);
     let size = 4 + 2 * n;
@@ -232,7 +242,9 @@ pub fn serialize_ligature_lookup(
     flags: u16,
     area: &mut [u8],
 ) -> Written
-    ensures { λ r. ⌜ Writing (lookupOf flags (Ligature n) (now (components .entry)) (now (ligatures .entry))) (now (area .entry)) r (now (area .exit)) ⌝ }
+    ensures { λ r.
+        let l = lookupLent flags (Ligature n) components ligatures in
+        ⌜ Writing l (now (area .entry)) r (now (area .exit)) ⌝ }
 {
     let width = n as usize;
     if flat(components.len(), ligatures.len(), width) {

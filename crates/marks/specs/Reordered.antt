@@ -1,4 +1,4 @@
--- The call that reorders marks: `Request` what is asked for; `Columns` what is lent; `Outcome` what is there afterwards; `line`, `part`, `newPart`, `newLine`, `reordered`, `rangesOf` what reordering
+-- The call that reorders marks: `Request` what is asked for; `Columns` what is lent; `requestOf`, `columnsOf` these from a call's parameters, `columnsLent` as an `ensures` has them; `Outcome` what is there afterwards; `line`, `part`, `newPart`, `newLine`, `reordered`, `rangesOf` what reordering
 -- gives; `rowsOf`, `reorderRows`, `reorderRefusal` when it is refused, and with which number; `span`, `listed`, `numberSaid`, `rangesSaid` what an answer says; `reorderAfter`, `Reordering` what the call answers
 -- and leaves, of every input.
 -- Assumes nothing.
@@ -9,6 +9,9 @@ use Prim.Native.Nat.{ℕ}
 use lib.Dec.{eqb, ltb}
 use lib.ListN.{length, take, drop}
 use lib.Seq.{slice}
+use denote.Ref.{now}
+use denote.Triple.Both.{Both}
+use Rattle.laws.specs.Lent.{Borrowed}
 use Rattle.laws.specs.Rows.{Row, Given, first}
 use Rattle.refusals.specs.Numbers.{numberOf}
 use Rattle.refusals.specs.Columns.{lineLimit}
@@ -43,6 +46,14 @@ requestOf start end low high = record { start = start; end = end; low = low; hig
 
 abbrev pub columnsOf : List ℕ → List ℕ → Columns
 columnsOf codes classes = record { codes = codes; classes = classes }
+
+-- the columns lent, `.entry`, and those that come back, `.exit`
+abbrev pub columnsLent : Borrowed ℕ → Borrowed ℕ → Both Columns Columns
+columnsLent codes classes =
+    record {
+      entry = columnsOf (now (codes .entry)) (now (classes .entry));
+      exit = columnsOf (now (codes .exit)) (now (classes .exit));
+    }
 
 abbrev pub outcome : List Span → Columns → Outcome
 outcome ranges columns = record { ranges = ranges; columns = columns }

@@ -1,8 +1,7 @@
 // Neighbours: the nearest letters on both sides of a place that are not transparent, found by walking outward from it.
 ghost use Prim.Native.Nat.{_≤_};
 ghost use lib.ListN.{length};
-ghost use Rattle.shapes.specs.Joining.{lineTypes};
-ghost use Rattle.joining.specs.Joinable.{Joinable};
+ghost use Rattle.joining.specs.Joinable.{Joinable, typesLent};
 ghost use Rattle.neighbours.specs.Beside.{StandsBefore, StandsFrom};
 use letters::JoiningType;
 
@@ -16,7 +15,7 @@ pub struct Neighbour {
 pub fn letter_before(types: &[u8], categories: &[u8], k: usize, before: u8) -> Neighbour
     requires { ⌜ Joinable (now types) (now categories) ⌝ }
     requires { ⌜ k ≤ length (now types) ⌝ }
-    ensures { λ r. ⌜ StandsBefore (lineTypes (now (types .entry)) (now (categories .entry))) k before r ⌝ }
+    ensures { λ r. ⌜ StandsBefore (typesLent types categories) k before r ⌝ }
 {
     let mut i = k;
     while 0 < i {
@@ -39,7 +38,7 @@ pub fn letter_before(types: &[u8], categories: &[u8], k: usize, before: u8) -> N
 pub fn letter_from(types: &[u8], categories: &[u8], k: usize, behind: u8) -> Neighbour
     requires { ⌜ Joinable (now types) (now categories) ⌝ }
     requires { ⌜ k ≤ length (now types) ⌝ }
-    ensures { λ r. ⌜ StandsFrom (lineTypes (now (types .entry)) (now (categories .entry))) k behind r ⌝ }
+    ensures { λ r. ⌜ StandsFrom (typesLent types categories) k behind r ⌝ }
 {
     let mut i = k;
     while i < types.len() {

@@ -28,8 +28,12 @@ fn put_digits(n: usize, x: u64, components: &mut [u16], at: usize) -> u64
 // The columns of rules of `n` components: their components, one rule behind the other, and what stands for them.
 pub fn unpack(n: usize, rules: &[u64], components: &mut [u16], ligatures: &mut [u16])
     requires { ⌜ (length (now rules) * n ≤ length (now components)) × (length (now rules) ≤ length (now ligatures)) ⌝ }
-    ensures components { λ _. ⌜ now (components .exit) ≡ flat (map (unpacked n) (now (rules .entry))) ++ drop (length (now (rules .entry)) * n) (now (components .entry)) ⌝ }
-    ensures ligatures { λ _. ⌜ now (ligatures .exit) ≡ ligaturesOf (map (unpacked n) (now (rules .entry))) ++ drop (length (now (rules .entry))) (now (ligatures .entry)) ⌝ }
+    ensures components { λ _.
+        let xs = now (rules .entry) in
+        ⌜ now (components .exit) ≡ flat (map (unpacked n) xs) ++ drop (length xs * n) (now (components .entry)) ⌝ }
+    ensures ligatures { λ _.
+        let xs = now (rules .entry) in
+        ⌜ now (ligatures .exit) ≡ ligaturesOf (map (unpacked n) xs) ++ drop (length xs) (now (ligatures .entry)) ⌝ }
 {
     let mut i = 0;
     let mut at = 0;

@@ -1,4 +1,4 @@
--- The call that reads a lookup back (document 01, "Reading back"): `Columns`, `columns` what is lent; `Outcome` what is there afterwards; `typeOf`, `componentsOf` what a kind says; `nothing`, `found` what is there with no lookup read, and with one; `accepted`, `lacking`, `rowsOf`, `readRefusal` when reading is refused, and with which number;
+-- The call that reads a lookup back (document 01, "Reading back"): `Columns`, `columns` what is lent; `columnsLent` the same from a call's parameters, as an `ensures` has them; `Outcome` what is there afterwards; `typeOf`, `componentsOf` what a kind says; `nothing`, `found` what is there with no lookup read, and with one; `accepted`, `lacking`, `rowsOf`, `readRefusal` when reading is refused, and with which number;
 -- `numberSaid`, `outcomeSaid` what an answer says; `readAfter`, `Reading` what the call answers and leaves, of every input.
 -- Assumes nothing.
 use mathlib.Core.Path.{_≡_}
@@ -7,6 +7,9 @@ use mathlib.Core.List.{List, [], _∷_, _++_}
 use Prim.Native.Nat.{ℕ}
 use lib.Dec.{ltb}
 use lib.ListN.{length, drop}
+use denote.Ref.{now}
+use denote.Triple.Both.{Both}
+use Rattle.laws.specs.Lent.{Borrowed}
 use Rattle.laws.specs.Rows.{Row, Given, first}
 use Rattle.refusals.specs.Numbers.{numberOf}
 use Rattle.refusals.specs.Left.{Left, After, leaves}
@@ -25,6 +28,14 @@ pub record Columns : Type 0 where
 
 abbrev pub columns : List ℕ → List ℕ → Columns
 columns glyphs substitutes = record { glyphs = glyphs; substitutes = substitutes }
+
+-- the columns lent, `.entry`, and those that come back, `.exit`
+abbrev pub columnsLent : Borrowed ℕ → Borrowed ℕ → Both Columns Columns
+columnsLent glyphs substitutes =
+    record {
+      entry = columns (now (glyphs .entry)) (now (substitutes .entry));
+      exit = columns (now (glyphs .exit)) (now (substitutes .exit));
+    }
 
 -- "A lookup as read says its flags and whether it is single, or ligature with its component number": its type is OpenType's, 1 or 4, its component number 0 if it is single; and it says how many rules it has
 pub record Outcome : Type 0 where

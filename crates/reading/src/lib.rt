@@ -3,7 +3,7 @@ ghost use mathlib.Core.Path.{_≡_};
 ghost use Prim.Native.Nat.{_≤_};
 ghost use Rattle.layouts.specs.declared.Kind.the-variants.{Single, Ligature};
 ghost use Rattle.recognizing.specs.Recognized.{Held};
-ghost use Rattle.reading.specs.Read.{columns, typeOf, componentsOf, numberSaid, Reading};
+ghost use Rattle.reading.specs.Read.{columnsLent, typeOf, componentsOf, numberSaid, Reading};
 use layouts::Kind;
 use recognizing::Recognized;
 use refusals::Refusal;
@@ -56,7 +56,9 @@ pub fn components_of(kind: Kind) -> u8
 // The single lookup that the bytes are, if the columns have room for it.
 fn read_single(bytes: &[u8], glyphs: &mut [u16], substitutes: &mut [u16]) -> Answer
     requires { ⌜ Held Single (now bytes) ⌝ }
-    ensures { λ r. ⌜ Reading (now (bytes .entry)) (columns (now (glyphs .entry)) (now (substitutes .entry))) r (columns (now (glyphs .exit)) (now (substitutes .exit))) ⌝ }
+    ensures { λ r.
+        let c = columnsLent glyphs substitutes in
+        ⌜ Reading (now (bytes .entry)) (c .entry) r (c .exit) ⌝ }
 {
     let n = (bytes.len() - 18) / 4;
     if (glyphs.len() < n) | (substitutes.len() < n) {
@@ -75,7 +77,9 @@ fn read_single(bytes: &[u8], glyphs: &mut [u16], substitutes: &mut [u16]) -> Ans
 // The ligature lookup that the bytes are, with `n` components, if the columns have room for it.
 fn read_ligature(n: u8, bytes: &[u8], components: &mut [u16], ligatures: &mut [u16]) -> Answer
     requires { ⌜ Held (Ligature n) (now bytes) × ((2 ≤ n) × (n ≤ 3)) ⌝ }
-    ensures { λ r. ⌜ Reading (now (bytes .entry)) (columns (now (components .entry)) (now (ligatures .entry))) r (columns (now (components .exit)) (now (ligatures .exit))) ⌝ }
+    ensures { λ r.
+        let c = columnsLent components ligatures in
+        ⌜ Reading (now (bytes .entry)) (c .entry) r (c .exit) ⌝ }
 {
     let width = n as usize;
     let sets = (words::u16_at(bytes, 10) as usize - 6) / 2;
@@ -94,7 +98,9 @@ fn read_ligature(n: u8, bytes: &[u8], components: &mut [u16], ligatures: &mut [u
 
 // Reads the lookup that the bytes are into two columns: its glyphs, or its components one rule behind the other, and its substitutes, or its ligatures.
 pub fn read_lookup(bytes: &[u8], glyphs: &mut [u16], substitutes: &mut [u16]) -> Answer
-    ensures { λ r. ⌜ Reading (now (bytes .entry)) (columns (now (glyphs .entry)) (now (substitutes .entry))) r (columns (now (glyphs .exit)) (now (substitutes .exit))) ⌝ }
+    ensures { λ r.
+        let c = columnsLent glyphs substitutes in
+        ⌜ Reading (now (bytes .entry)) (c .entry) r (c .exit) ⌝ }
 {
     match recognizing::recognize(bytes) {
         Recognized::Nothing => Answer::Refused(Refusal::NoLookup),

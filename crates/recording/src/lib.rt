@@ -80,7 +80,9 @@ fn refused(n: usize, m: usize, k: usize) -> Verdict
 
 // Records what `stch` has multiplied: a record with an odd component number is repeated, any other is fixed. Without a mask of `stch` nothing is recorded.
 pub fn record_stch(mask: u32, multiplied: &[u8], components: &[u8], actions: &mut [u8]) -> Answer
-    ensures { λ r. ⌜ Recording (requestOf mask (now (multiplied .entry)) (now (components .entry))) (now (actions .entry)) r (now (actions .exit)) ⌝ }
+    ensures { λ r.
+        let q = requestOf mask (now (multiplied .entry)) (now (components .entry)) in
+        ⌜ Recording q (now (actions .entry)) r (now (actions .exit)) ⌝ }
 {
     let verdict = refused(multiplied.len(), components.len(), actions.len());
     match verdict {

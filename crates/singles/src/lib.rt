@@ -1,6 +1,6 @@
 // Singles: the public call that writes a single lookup.
 ghost use Rattle.layouts.specs.declared.Kind.the-variants.{Single};
-ghost use Rattle.layouts.specs.Lookups.{lookupOf};
+ghost use Rattle.layouts.specs.Lookups.{lookupLent};
 ghost use Rattle.layouts.specs.Written.{Writing};
 use layouts::Written;
 use refusals::Refusal;
@@ -15,7 +15,9 @@ pub fn serialize_single_lookup(
     flags: u16,
     area: &mut [u8],
 ) -> Written
-    ensures { λ r. ⌜ Writing (lookupOf flags Single (now (glyphs .entry)) (now (substitutes .entry))) (now (area .entry)) r (now (area .exit)) ⌝ }
+    ensures { λ r.
+        let l = lookupLent flags Single glyphs substitutes in
+        ⌜ Writing l (now (area .entry)) r (now (area .exit)) ⌝ }
 {
     let n = substitutes.len();
     if glyphs.len() != n {

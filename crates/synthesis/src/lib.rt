@@ -4,7 +4,7 @@ ghost use Prim.Native.Nat.{_+_, _*_, _≤_, _<_};
 ghost use lib.ListN.{length};
 ghost use Rattle.laws.specs.Lists.{pasted};
 ghost use Rattle.layouts.specs.declared.Kind.the-variants.{Single, Ligature};
-ghost use Rattle.fonts.specs.Font.{fontOf, Sound, Span};
+ghost use Rattle.fonts.specs.Font.{fontNow, fontLent, Sound, Span};
 ghost use Rattle.synthesis.specs.Rules.{rows, ruled, kindOf};
 ghost use Rattle.synthesis.specs.Made.{packedIn, rowOf, gives, pair, Collected};
 use fonts::Found;
@@ -18,8 +18,8 @@ pub enum Row {
 
 // The rule of a shaping row. A form 0 costs no search.
 fn single_rule(codes: &[u32], glyphs: &[u32], span: usize, code: u16, form: u16) -> Row
-    requires { ⌜ Sound (fontOf (now codes) (now glyphs)) × Span (length (now codes)) span ⌝ }
-    ensures { λ r. ⌜ packedIn r ≡ gives (fontOf (now (codes .entry)) (now (glyphs .entry))) Single (pair code form) ⌝ }
+    requires { ⌜ Sound (fontNow codes glyphs) × Span (length (now codes)) span ⌝ }
+    ensures { λ r. ⌜ packedIn r ≡ gives (fontLent codes glyphs) Single (pair code form) ⌝ }
 {
     if form == 0 {
         return Row::Dropped;
@@ -47,8 +47,8 @@ fn ligature_rule(
     at: usize,
     ligature: u16,
 ) -> Row
-    requires { ⌜ Sound (fontOf (now codes) (now glyphs)) × Span (length (now codes)) span × (n ≤ 3) × (at + n ≤ length (now components)) ⌝ }
-    ensures { λ r. ⌜ packedIn r ≡ gives (fontOf (now (codes .entry)) (now (glyphs .entry))) (Ligature n) (rowOf n (now (components .entry)) at ligature) ⌝ }
+    requires { ⌜ Sound (fontNow codes glyphs) × Span (length (now codes)) span × (n ≤ 3) × (at + n ≤ length (now components)) ⌝ }
+    ensures { λ r. ⌜ packedIn r ≡ gives (fontLent codes glyphs) (Ligature n) (rowOf n (now (components .entry)) at ligature) ⌝ }
 {
     let Found::At(whole) = fonts::glyph_for_codepoint(codes, glyphs, span, Code(ligature as u32))
     else {
@@ -81,8 +81,8 @@ fn rule_of(
     at: usize,
     ligature: u16,
 ) -> Row
-    requires { ⌜ Sound (fontOf (now codes) (now glyphs)) × Span (length (now codes)) span × (1 ≤ n) × (n ≤ 3) × (at + n ≤ length (now components)) ⌝ }
-    ensures { λ r. ⌜ packedIn r ≡ gives (fontOf (now (codes .entry)) (now (glyphs .entry))) (kindOf n) (rowOf n (now (components .entry)) at ligature) ⌝ }
+    requires { ⌜ Sound (fontNow codes glyphs) × Span (length (now codes)) span × (1 ≤ n) × (n ≤ 3) × (at + n ≤ length (now components)) ⌝ }
+    ensures { λ r. ⌜ packedIn r ≡ gives (fontLent codes glyphs) (kindOf n) (rowOf n (now (components .entry)) at ligature) ⌝ }
 {
     if n == 1 {
         return single_rule(codes, glyphs, span, components[at], ligature);
@@ -116,8 +116,10 @@ pub fn collect(
     ligatures: &[u16],
     rules: &mut [u64],
 ) -> usize
-    requires { ⌜ Sound (fontOf (now codes) (now glyphs)) × (1 ≤ n) × (n ≤ 3) × (k < each) × (count * n ≤ length (now components)) × (count * each ≤ length (now ligatures)) × (count ≤ length (now rules)) ⌝ }
-    ensures { λ r. ⌜ Collected (ruled (fontOf (now (codes .entry)) (now (glyphs .entry))) (kindOf n) (rows count n each k (now (components .entry)) (now (ligatures .entry)))) (now (rules .entry)) r (now (rules .exit)) ⌝ }
+    requires { ⌜ Sound (fontNow codes glyphs) × (1 ≤ n) × (n ≤ 3) × (k < each) × (count * n ≤ length (now components)) × (count * each ≤ length (now ligatures)) × (count ≤ length (now rules)) ⌝ }
+    ensures { λ r.
+        let from = rows count n each k (now (components .entry)) (now (ligatures .entry)) in
+        ⌜ Collected (ruled (fontLent codes glyphs) (kindOf n) from) (now (rules .entry)) r (now (rules .exit)) ⌝ }
 {
     let span = fonts::span_of(codes.len());
     let mut left = count;

@@ -4,6 +4,7 @@
 --   leading, entries            what they say
 --   last                        the largest number that lines are counted to
 --   told, Closed, whole         what a text comes to, and the columns that its entries are held in
+--   columnsLent                 what is made of these columns, as they are lent to a call and as they come back
 --   codesOf, widthsOf, kindsOf, categoriesOf   these columns
 -- Assumes nothing.
 use Prim.Native.Nat.{ℕ, min}
@@ -12,6 +13,9 @@ use mathlib.Core.List.{List, [], _∷_, map}
 use lib.Dec.{eqb}
 use lib.ListN.{length}
 use lib.Seq.{sets}
+use denote.Ref.{now}
+use denote.Triple.Both.{Both}
+use Rattle.laws.specs.Lent.{Borrowed}
 use Rattle.entries.specs.declared.Entry.{Entry}
 use Rattle.entries.specs.declared.Line.{Line}
 use Rattle.entries.specs.declared.Line.the-variants.{Other, Says}
@@ -69,6 +73,14 @@ categoriesOf es = map (λ (e : Entry). e .category) es
 -- What a text comes to, and the columns afterwards: codes, widths, types, categories.
 pub data Closed : Type 0 where
   Close : Told → (codes widths types categories : List ℕ) → Closed
+
+-- What `f` makes of the columns: of those lent, `.entry`, and of those that come back, `.exit`.
+abbrev pub columnsLent : {A : Type 0} → (List ℕ → List ℕ → List ℕ → List ℕ → A) → Borrowed ℕ → Borrowed ℕ → Borrowed ℕ → Borrowed ℕ → Both A A
+columnsLent f codes widths types categories =
+    record {
+      entry = f (now (codes .entry)) (now (widths .entry)) (now (types .entry)) (now (categories .entry));
+      exit = f (now (codes .exit)) (now (widths .exit)) (now (types .exit)) (now (categories .exit));
+    }
 
 -- What a whole text comes to, read into columns: its entries stand in them from the start. An entry past the end of a column is
 -- not held in it, and what lies behind the last entry stays.

@@ -9,7 +9,7 @@ ghost use mathlib.Core.List.{List};
 ghost use Prim.Native.Nat.{ℕ};
 ghost use lib.ListN.{set};
 ghost use Rattle.entries.specs.Steps.{start as startOf};
-ghost use Rattle.texts.specs.Form.{Close, whole};
+ghost use Rattle.texts.specs.Form.{Close, whole, columnsLent};
 ghost use Rattle.texts.specs.Steps.{up as upOf, Hold, ended, stepped, readOn, finished, toldBy, closed};
 
 // What a whole text comes to: a line is of other form, or all are read and there are so many.
@@ -55,7 +55,7 @@ fn end_line(
     types: &mut [u8],
     categories: &mut [u8],
 ) -> State
-    ensures { λ r. ⌜ Hold r (now (codes .exit)) (now (widths .exit)) (now (types .exit)) (now (categories .exit)) ≡ ended (Hold s (now (codes .entry)) (now (widths .entry)) (now (types .entry)) (now (categories .entry))) ⌝ }
+    ensures { λ r. ⌜ columnsLent (Hold r) codes widths types categories .exit ≡ ended (columnsLent (Hold s) codes widths types categories .entry) ⌝ }
 {
     let n = s.lines;
     let Line::Says(e) = entries::said(s) else {
@@ -77,7 +77,7 @@ fn step(
     types: &mut [u8],
     categories: &mut [u8],
 ) -> State
-    ensures { λ r. ⌜ Hold r (now (codes .exit)) (now (widths .exit)) (now (types .exit)) (now (categories .exit)) ≡ stepped (Hold s (now (codes .entry)) (now (widths .entry)) (now (types .entry)) (now (categories .entry))) b ⌝ }
+    ensures { λ r. ⌜ columnsLent (Hold r) codes widths types categories .exit ≡ stepped (columnsLent (Hold s) codes widths types categories .entry) b ⌝ }
 {
     if b == LINE_END {
         return end_line(s, codes, widths, types, categories);
@@ -101,7 +101,7 @@ pub fn read_on(
     types: &mut [u8],
     categories: &mut [u8],
 ) -> State
-    ensures { λ r. ⌜ Hold r (now (codes .exit)) (now (widths .exit)) (now (types .exit)) (now (categories .exit)) ≡ readOn (Hold s (now (codes .entry)) (now (widths .entry)) (now (types .entry)) (now (categories .entry))) (now (piece .entry)) ⌝ }
+    ensures { λ r. ⌜ columnsLent (Hold r) codes widths types categories .exit ≡ readOn (columnsLent (Hold s) codes widths types categories .entry) (now (piece .entry)) ⌝ }
 {
     let mut at = s;
     let mut i = 0;
@@ -120,7 +120,7 @@ fn finish(
     types: &mut [u8],
     categories: &mut [u8],
 ) -> State
-    ensures { λ r. ⌜ Hold r (now (codes .exit)) (now (widths .exit)) (now (types .exit)) (now (categories .exit)) ≡ finished (Hold s (now (codes .entry)) (now (widths .entry)) (now (types .entry)) (now (categories .entry))) ⌝ }
+    ensures { λ r. ⌜ columnsLent (Hold r) codes widths types categories .exit ≡ finished (columnsLent (Hold s) codes widths types categories .entry) ⌝ }
 {
     if (s.field == 0) & (s.digits == 0) {
         return s;
@@ -147,8 +147,11 @@ pub fn close(
     types: &mut [u8],
     categories: &mut [u8],
 ) -> Told
-    ensures state { λ r. ⌜ Close r (now (codes .exit)) (now (widths .exit)) (now (types .exit)) (now (categories .exit)) ≡ closed (Hold s (now (codes .entry)) (now (widths .entry)) (now (types .entry)) (now (categories .entry))) ⌝ }
-    ensures text { λ r. ⌜ ((text c w t g : List ℕ) → Hold s (now (codes .entry)) (now (widths .entry)) (now (types .entry)) (now (categories .entry)) ≡ readOn (Hold (startOf 0) c w t g) text → Close r (now (codes .exit)) (now (widths .exit)) (now (types .exit)) (now (categories .exit)) ≡ whole text c w t g) ⌝ }
+    ensures state { λ r. ⌜ columnsLent (Close r) codes widths types categories .exit ≡ closed (columnsLent (Hold s) codes widths types categories .entry) ⌝ }
+    ensures text { λ r.
+        let before = columnsLent (Hold s) codes widths types categories .entry in
+        let after = columnsLent (Close r) codes widths types categories .exit in
+        ⌜ ((text c w t g : List ℕ) → before ≡ readOn (Hold (startOf 0) c w t g) text → after ≡ whole text c w t g) ⌝ }
 {
     verdict(finish(s, codes, widths, types, categories))
 }

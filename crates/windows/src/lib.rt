@@ -4,7 +4,7 @@ ghost use mathlib.Core.Bool.{cond};
 ghost use Prim.Native.Nat.{_<_, _≤_};
 ghost use lib.Dec.{eqb};
 ghost use lib.ListN.{length};
-ghost use Rattle.fonts.specs.Font.{fontOf, Sound, Span, glyphOf};
+ghost use Rattle.fonts.specs.Font.{fontNow, fontLent, Sound, Span, glyphOf};
 ghost use Rattle.drafts.specs.Entries.{longestDirect};
 ghost use Rattle.drafts.specs.Drafted.{Drafted};
 ghost use Rattle.windows.specs.Windows.{signed, direct};
@@ -183,8 +183,8 @@ const NO_FLAGS: u16 = 0;
 
 // Whether the font has this glyph for the code.
 fn has_glyph(codes: &[u32], glyphs: &[u32], span: usize, code: Code, glyph: Glyph) -> bool
-    requires { ⌜ Sound (fontOf (now codes) (now glyphs)) × Span (length (now codes)) span × (glyph .0 < 4294967296) ⌝ }
-    ensures { λ r. ⌜ r ≡ eqb (glyphOf (fontOf (now (codes .entry)) (now (glyphs .entry))) (code .0)) (glyph .0) ⌝ }
+    requires { ⌜ Sound (fontNow codes glyphs) × Span (length (now codes)) span × (glyph .0 < 4294967296) ⌝ }
+    ensures { λ r. ⌜ r ≡ eqb (glyphOf (fontLent codes glyphs) (code .0)) (glyph .0) ⌝ }
 {
     match fonts::nominal_glyph(codes, glyphs, span, code) {
         Found::At(found) => found.0 == glyph.0,
@@ -194,8 +194,8 @@ fn has_glyph(codes: &[u32], glyphs: &[u32], span: usize, code: Code, glyph: Glyp
 
 // Whether the font has the signature: the glyphs of Alef, Lam, Alef Maksura, Yeh and Sukun.
 pub fn is_win1256_font(codes: &[u32], glyphs: &[u32]) -> bool
-    requires { ⌜ Sound (fontOf (now codes) (now glyphs)) ⌝ }
-    ensures { λ r. ⌜ r ≡ signed (fontOf (now (codes .entry)) (now (glyphs .entry))) ⌝ }
+    requires { ⌜ Sound (fontNow codes glyphs) ⌝ }
+    ensures { λ r. ⌜ r ≡ signed (fontLent codes glyphs) ⌝ }
 {
     let span = fonts::span_of(codes.len());
     has_glyph(codes, glyphs, span, Code(0x0627), Glyph(199))
@@ -261,8 +261,8 @@ fn add_tables(masks: [u32; 5], scratch: &mut [u8]) -> Draft
 
 // The plan of such a font; no entry where the font has not the signature.
 pub fn new_win1256(masks: [u32; 5], codes: &[u32], glyphs: &[u32], scratch: &mut [u8]) -> Draft
-    requires { ⌜ Sound (fontOf (now codes) (now glyphs)) × (longestDirect ≤ length (now scratch)) × (length (now scratch) < 4294967296) ⌝ }
-    ensures { λ r. ⌜ Drafted (direct masks (fontOf (now (codes .entry)) (now (glyphs .entry)))) r (now (scratch .exit)) ⌝ }
+    requires { ⌜ Sound (fontNow codes glyphs) × (longestDirect ≤ length (now scratch)) × (length (now scratch) < 4294967296) ⌝ }
+    ensures { λ r. ⌜ Drafted (direct masks (fontLent codes glyphs)) r (now (scratch .exit)) ⌝ }
 {
     if is_win1256_font(codes, glyphs) {
         return add_tables(masks, scratch);

@@ -25,7 +25,7 @@ sub-type-at c = search needs
 
 type-at-requires : tie.Need-type-at-requires Inv-loop μ-loop
 type-at-requires c κs =
-    let s = c .before .before .before .before in
+    let s : tie.Start Inv-loop μ-loop = search in
     (omega (arith, s .pre .1, c .before .loop .inv .0), omega (arith, s .pre .1, s .pre .0 .even, c .before .loop .inv .0))
 
 sub-t10 : tie.Need-sub-t10 Inv-loop μ-loop
@@ -33,8 +33,9 @@ sub-t10 c = search needs
 
 returns : tie.Need-returns Inv-loop μ-loop
 returns c =
-    let l = c .before .before .before .before .loop in
-    let s = c .before .before .before .before .before .before .before in
+    let s : tie.Start Inv-loop μ-loop = search in
+    let turn : tie.At-loop Inv-loop μ-loop = search in
+    let l = turn .loop in
     l .inv .1 _
     (before-stops (s .pre .0) (l .i - 1) _ (c .before .before .type-at .ensures) (omega (arith, s .pre .1, l .inv .0, c .before .before .before .loop-test .taken)) (c .if1 .taken) _ (l .i) (omega arith))
 
@@ -46,15 +47,18 @@ loop-less c = search needs
 
 loop-again : tie.Need-loop-again Inv-loop μ-loop
 loop-again c =
-    let l = c .before .before .before .before .loop in
-    let s = c .before .before .before .before .before .before .before in (
+    let s : tie.Start Inv-loop μ-loop = search in
+    let turn : tie.At-loop Inv-loop μ-loop = search in
+    let l = turn .loop in (
       search needs,
       λ found f. l .inv .1 found
           (before-skips (s .pre .0) (l .i - 1) _ (c .before .before .type-at .ensures) (omega (arith, s .pre .1, l .inv .0, c .before .before .before .loop-test .taken)) (c .if1 .left) _ (l .i) (omega arith) f),
     )
 
 returns-2 : tie.Need-returns-2 Inv-loop μ-loop
-returns-2 c = c .before .loop .inv .1 _ (before-ends (c .before .before .before .before .pre .0) _ (c .before .loop .i) (omega arith))
+returns-2 c =
+    let s : tie.Start Inv-loop μ-loop = search in
+    c .before .loop .inv .1 _ (before-ends (s .pre .0) _ (c .before .loop .i) (omega arith))
 
 pub letter-before-spec : {M : Type 1} → statement M
 letter-before-spec =

@@ -22,12 +22,15 @@ loop-holds : tie.Need-loop-holds Inv-loop μ-loop
 loop-holds c = (c .before .before .pre .1, λ found f. f)
 
 type-at-requires : tie.Need-type-at-requires Inv-loop μ-loop
-type-at-requires c κs = (c .loop-test .taken, omega (arith, c .before .before .before .before .pre .0 .even, c .loop-test .taken))
+type-at-requires c κs =
+    let s : tie.Start Inv-loop μ-loop = search in
+    (c .loop-test .taken, omega (arith, s .pre .0 .even, c .loop-test .taken))
 
 returns : tie.Need-returns Inv-loop μ-loop
 returns c =
-    let l = c .before .before .before .before .loop in
-    let s = c .before .before .before .before .before .before .before in
+    let s : tie.Start Inv-loop μ-loop = search in
+    let turn : tie.At-loop Inv-loop μ-loop = search in
+    let l = turn .loop in
     l .inv .1 _ (from-stops (s .pre .0) (l .i) _ (c .before .before .type-at .ensures) (c .before .before .before .loop-test .taken) (c .if1 .taken) _)
 
 add-i : tie.Need-add-i Inv-loop μ-loop
@@ -38,15 +41,18 @@ loop-less c = search needs
 
 loop-again : tie.Need-loop-again Inv-loop μ-loop
 loop-again c =
-    let l = c .before .before .before .before .loop in
-    let s = c .before .before .before .before .before .before .before in (
+    let s : tie.Start Inv-loop μ-loop = search in
+    let turn : tie.At-loop Inv-loop μ-loop = search in
+    let l = turn .loop in (
       search needs,
       λ found f. l .inv .1 found
           (from-skips (s .pre .0) (l .i) _ (c .before .before .type-at .ensures) (c .before .before .before .loop-test .taken) (c .if1 .left) _ f),
     )
 
 returns-2 : tie.Need-returns-2 Inv-loop μ-loop
-returns-2 c = c .before .loop .inv .1 _ (from-ends (c .before .before .before .before .pre .0) _ (c .before .loop .i) (c .loop-test .left))
+returns-2 c =
+    let s : tie.Start Inv-loop μ-loop = search in
+    c .before .loop .inv .1 _ (from-ends (s .pre .0) _ (c .before .loop .i) (c .loop-test .left))
 
 pub letter-from-spec : {M : Type 1} → statement M
 letter-from-spec = tie.close (tie.spec Inv-loop μ-loop loop-holds type-at-requires returns add-i loop-less loop-again returns-2)

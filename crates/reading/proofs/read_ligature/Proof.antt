@@ -15,8 +15,12 @@ use borrow.Author.Needs.{needs}
 use Rattle.reading.proofs.read_ligature.Statement.{statement}
 use Rattle.reading.proofs.read_ligature.Tie as tie
 
+-- where the call began
+abbrev start : tie.After-u16-at → tie.Start
+start u = search
+
 -- the number of sets that is read
-sets-is : (u : tie.After-u16-at) → (u .u16-at .result - 6) / 2 ≡ countAt (u .before .before .before .before .args .bytes .now)
+sets-is : (u : tie.After-u16-at) → (u .u16-at .result - 6) / 2 ≡ countAt (start u .args .bytes .now)
 sets-is u = ap (λ (o : ℕ). (o - 6) / 2) (u .u16-at .ensures)
 
 -- the lookup is in the bytes
@@ -25,18 +29,18 @@ begins s = omega (arith, ligature-place (s .args .n) (s .args .bytes .now) (s .a
 
 place :
     (u : tie.After-u16-at)
-    → 18 + 6 * ((u .u16-at .result - 6) / 2) + length (rulesIn (u .before .before .before .before .args .n) (u .before .before .before .before .args .bytes .now)) * (4 + 2 * u .before .before .before .before .args .n)
-    ≤ length (u .before .before .before .before .args .bytes .now)
+    → 18 + 6 * ((u .u16-at .result - 6) / 2) + length (rulesIn (start u .args .n) (start u .args .bytes .now)) * (4 + 2 * start u .args .n)
+    ≤ length (start u .args .bytes .now)
 place u =
-    let s = u .before .before .before .before in
+    let s = start u in
     ligature-place (s .args .n) (s .args .bytes .now) (s .args .components .now) (s .args .ligatures .now) (s .pre .0) (s .pre .1 .0) _ (sets-is u)
 
 -- the components are fewer than the bytes
 parts-small :
     (u : tie.After-u16-at)
-    → (length (u .before .before .before .before .args .bytes .now) - (18 + 6 * ((u .u16-at .result - 6) / 2))) / (4 + 2 * u .before .before .before .before .args .n) * u .before .before .before .before .args .n ≤ length (u .before .before .before .before .args .bytes .now)
+    → (length (start u .args .bytes .now) - (18 + 6 * ((u .u16-at .result - 6) / 2))) / (4 + 2 * start u .args .n) * start u .args .n ≤ length (start u .args .bytes .now)
 parts-small u =
-    let a = u .before .before .before .before .args in
+    let a = start u .args in
     let x = length (a .bytes .now) - (18 + 6 * ((u .u16-at .result - 6) / 2)) in
     omega (arith, div-mul-le-self x (4 + 2 * a .n), mul-le-mul-left (x / (4 + 2 * a .n)) (more (a .n)))
   where
@@ -46,11 +50,11 @@ parts-small u =
 -- the columns have room
 roomy :
     (e : tie.Else1)
-    → (length (flat (rulesIn (e .before .before .before .before .before .args .n) (e .before .before .before .before .before .args .bytes .now))) ≤ length (e .before .before .before .before .before .args .components .now))
-    × (length (rulesIn (e .before .before .before .before .before .args .n) (e .before .before .before .before .before .args .bytes .now)) ≤ length (e .before .before .before .before .before .args .ligatures .now))
+    → (length (flat (rulesIn (start (e .before) .args .n) (start (e .before) .args .bytes .now))) ≤ length (start (e .before) .args .components .now))
+    × (length (rulesIn (start (e .before) .args .n) (start (e .before) .args .bytes .now)) ≤ length (start (e .before) .args .ligatures .now))
 roomy e =
     let u = e .before in
-    let s = u .before .before .before .before in
+    let s = start u in
     let a = s .args in
     let n : ℕ = (length (a .bytes .now) - (18 + 6 * ((u .u16-at .result - 6) / 2))) / (4 + 2 * a .n) in
     let t = neither (ltb (length (a .components .now)) (n * a .n)) (ltb (length (a .ligatures .now)) n) (e .if1 .left) in
@@ -65,7 +69,7 @@ cast-sets : tie.Need-cast-sets
 cast-sets c = search needs
 
 sub-sets : tie.Need-sub-sets
-sub-sets c = omega (arith, c .before .before .before .before .pre .0 .offset, c .u16-at .ensures)
+sub-sets c = omega (arith, start c .pre .0 .offset, c .u16-at .ensures)
 
 mul-count : tie.Need-mul-count
 mul-count c = omega (arith, c .u16-at .ok)
@@ -77,23 +81,23 @@ sub-count : tie.Need-sub-count
 sub-count c = omega (arith, place c)
 
 mul-count-2 : tie.Need-mul-count-2
-mul-count-2 c = omega (arith, c .before .before .before .before .pre .1 .1)
+mul-count-2 c = omega (arith, start c .pre .1 .1)
 
 add-count-2 : tie.Need-add-count-2
-add-count-2 c = omega (arith, c .before .before .before .before .pre .1 .1)
+add-count-2 c = omega (arith, start c .pre .1 .1)
 
 div-count : tie.Need-div-count
 div-count c = omega arith
 
 mul-if1 : tie.Need-mul-if1
 mul-if1 c =
-    let s = c .before .before .before .before in
+    let s = start c in
     omega (arith, parts-small c, s .pre .1 .1)
 
 returns : tie.Need-returns
 returns c =
     let u = c .before in
-    let s = u .before .before .before .before in
+    let s = start u in
     let a = s .args in
     ligature-room (a .n) (a .bytes .now) (a .components .now) (a .ligatures .now) (s .pre .0) (s .pre .1 .0) _ (sets-is u) _ refl (c .if1 .taken)
 
@@ -102,14 +106,14 @@ unfolding endOf
 fill-sets-requires c κs =
     let e = c .before .before in
     let u = e .before in
-    let s = u .before .before .before .before in
+    let s = start u in
     let r = roomy e in
     rw (sets-is u) ((s .pre .1 .0, s .pre .1 .1, omega (arith, u .u16-at .ok, u .u16-at .ensures), s .pre .0 .within), (r .0, r .1))
 
 u16-at-requires-2 : tie.Need-u16-at-requires-2
 u16-at-requires-2 c κs =
-    let e = c .before .before .before .before .before .before .before in
-    omega (arith, begins (e .before .before .before .before .before))
+    let s : tie.Start = search in
+    omega (arith, begins s)
 
 same-length : tie.Need-same-length
 same-length c = search needs
@@ -119,10 +123,10 @@ same-length-2 c = search needs
 
 returns-2 : tie.Need-returns-2
 returns-2 c =
-    let f = c .before .before .before .before .before in
-    let e = f .before .before .before in
+    let f : tie.After-fill-sets = search in
+    let e : tie.Else1 = search in
     let u = e .before in
-    let s = u .before .before .before .before in
+    let s = start u in
     let a = s .args in
     ligature-read (a .n) (a .bytes .now) (a .components .now) (a .ligatures .now) (s .pre .0) (s .pre .1 .0) _ (sets-is u) _ refl (e .if1 .left) _ (c .u16-at2 .ensures) _ _ (rw (sets-is u) at (f .fill-sets .ensures))
 

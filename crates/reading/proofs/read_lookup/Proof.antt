@@ -20,25 +20,28 @@ enum-told-2 c = search needs
 
 read-single-requires : tie.Need-read-single-requires
 read-single-requires c κs =
+    let s : tie.Start = search in
     let m = c .before .before in
     let k = m .before .before .before in
     let r = k .before .before in
-    held-single (r .before .before .before .before .args .bytes .now) (k .kind .given .0 .0) (k .kind .given .1) (m .enum-told2 .given .1) (r .recognize .ensures)
+    held-single (s .args .bytes .now) (k .kind .given .0 .0) (k .kind .given .1) (m .enum-told2 .given .1) (r .recognize .ensures)
 
 enum-known-kind-2 : tie.Need-enum-known-kind-2
 enum-known-kind-2 c = search needs
 
 read-ligature-requires : tie.Need-read-ligature-requires
 read-ligature-requires c κs =
+    let s : tie.Start = search in
     let k2 = c .before .before .before in
     let k = k2 .before .before .before in
     let r = k .before .before in
-    held-ligature (r .before .before .before .before .args .bytes .now) (k .kind .given .0 .0) (k .kind .given .1) (k2 .kind2 .given .0 .0) (k2 .kind2 .given .1) (r .recognize .ensures)
+    held-ligature (s .args .bytes .now) (k .kind .given .0 .0) (k .kind .given .1) (k2 .kind2 .given .0 .0) (k2 .kind2 .given .1) (r .recognize .ensures)
 
 returns : tie.Need-returns
 returns c =
+    let s : tie.Start = search in
     let r = c .before .before in
-    let a = r .before .before .before .before .args in
+    let a = s .args in
     no-lookup (a .bytes .now) (columns (a .glyphs .now) (a .substitutes .now)) (held-none (a .bytes .now) (c .enum-told .given .1) (r .recognize .ensures))
 
 same-length : tie.Need-same-length

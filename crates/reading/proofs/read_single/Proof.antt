@@ -16,13 +16,17 @@ use Rattle.reading.proofs.read_single.Tie as tie
 place : (s : tie.Start) → 18 + 4 * ((length (s .args .bytes .now) - 18) / 4) ≤ length (s .args .bytes .now)
 place s = single-place (s .args .bytes .now) (s .args .glyphs .now) (s .args .substitutes .now) (s .pre) _ refl
 
+-- where the call began
+abbrev start : tie.Else1 → tie.Start
+start e = search
+
 -- the columns have room
 roomy :
     (e : tie.Else1)
-    → ((length (e .before .before .before .before .args .bytes .now) - 18) / 4 ≤ length (e .before .before .before .before .args .glyphs .now))
-    × ((length (e .before .before .before .before .args .bytes .now) - 18) / 4 ≤ length (e .before .before .before .before .args .substitutes .now))
+    → ((length (start e .args .bytes .now) - 18) / 4 ≤ length (start e .args .glyphs .now))
+    × ((length (start e .args .bytes .now) - 18) / 4 ≤ length (start e .args .substitutes .now))
 roomy e =
-    let a = e .before .before .before .before .args in
+    let a = start e .args in
     let n = (length (a .bytes .now) - 18) / 4 in
     let t = neither (ltb (length (a .glyphs .now)) n) (ltb (length (a .substitutes .now)) n) (e .if1 .left) in
     (ltb-false (length (a .glyphs .now)) n (t .0), ltb-false (length (a .substitutes .now)) n (t .1))
@@ -32,32 +36,32 @@ sub-n c = omega (arith, place (c .before .before .before))
 
 returns : tie.Need-returns
 returns c =
-    let s = c .before .before .before .before in
+    let s : tie.Start = search in
     let a = s .args in
     single-room (a .bytes .now) (a .glyphs .now) (a .substitutes .now) (s .pre) _ refl (c .if1 .taken)
 
 mul-get-words : tie.Need-mul-get-words
-mul-get-words c = omega (arith, place (c .before .before .before .before))
+mul-get-words c = omega (arith, place (start c))
 
 add-get-words : tie.Need-add-get-words
-add-get-words c = omega (arith, place (c .before .before .before .before))
+add-get-words c = omega (arith, place (start c))
 
 get-words-requires : tie.Need-get-words-requires
 get-words-requires c κs =
     let e = c .before in
-    let s = e .before .before .before .before in
+    let s = start e in
     (omega (arith, place s), roomy e .0)
 
 get-words-requires-2 : tie.Need-get-words-requires-2
 get-words-requires-2 c κs =
-    let e = c .before .before .before .before .before in
-    let s = e .before .before .before .before in
+    let e : tie.Else1 = search in
+    let s = start e in
     (omega (arith, place s), roomy e .1)
 
 u16-at-requires : tie.Need-u16-at-requires
 u16-at-requires c κs =
-    let e = c .before .before .before .before .before .before .before .before in
-    omega (arith, place (e .before .before .before .before))
+    let s : tie.Start = search in
+    omega (arith, place s)
 
 same-length : tie.Need-same-length
 same-length c = search needs
@@ -68,9 +72,9 @@ same-length-2 c = search needs
 returns-2 : tie.Need-returns-2
 returns-2 c =
     let k = c .before .before .before in
-    let f = k .before .before .before .before in
+    let f : tie.After-get-words = search in
     let e = f .before .before in
-    let s = e .before .before .before .before in
+    let s = start e in
     let a = s .args in
     single-read (a .bytes .now) (a .glyphs .now) (a .substitutes .now) (s .pre) _ refl (e .if1 .left) _ (c .u16-at .ensures) _ _ (f .get-words .ensures) (k .get-words2 .ensures)
 

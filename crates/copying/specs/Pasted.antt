@@ -1,9 +1,10 @@
--- Columns written over: `pastedAll` records copied, in each column; `EvenLine` that a line's columns are of one length, `Roomy` that an output's have room.
+-- Columns written over: `pastedAll` records copied, in each column; `EvenLine` that a line's columns are of one length, `Roomy` that an output's have room; `Copyable`, `PartCopied` what copying a part asks for and promises.
 -- Assumes nothing.
 use mathlib.Core.Path.{_≡_}
 use Prim.Native.Nat.{ℕ, _+_, _≤_}
 use lib.ListN.{length}
 use lib.Seq.{slice}
+use denote.Triple.Both.{Both}
 use Rattle.laws.specs.Lists.{pasted}
 use Rattle.runs.specs.Records.{Columns, columns}
 
@@ -37,3 +38,13 @@ pub record Roomy (m : ℕ) (c : Columns) : Type 0 where
   pub forActions : m ≤ length (c .actions)
   pub forAdvances : m ≤ length (c .advances)
   pub forOffsets : m ≤ length (c .offsets)
+
+-- the part is one of the line, and comes within the output
+pub record Copyable (i s : ℕ) (line : Columns) (o : ℕ) (output : Columns) : Type 0 where
+  pub inside : i + s ≤ length (line .actions)
+  pub even : EvenLine line
+  pub room : Roomy (o + s) output
+
+-- it stands in the output as it was lent, and nothing else is written
+abbrev pub PartCopied : ℕ → ℕ → Both Columns Columns → ℕ → Both Columns Columns → Type 0
+PartCopied i s line o output = output .exit ≡ pastedAll i s (line .entry) o (output .entry)

@@ -3,13 +3,12 @@ ghost use mathlib.Core.Path.{_≡_};
 ghost use mathlib.Core.Bool.{cond};
 ghost use Prim.Native.Nat.{_+_, _≤_};
 ghost use lib.Dec.{eqb};
-ghost use lib.ListN.{length};
 ghost use Rattle.letters.specs.Actions.{repeating};
-ghost use Rattle.runs.specs.Records.{columns};
+ghost use Rattle.runs.specs.Records.{columnsNow, columnsLent};
 ghost use Rattle.runs.specs.Stretched.{moved as movedBy, pieces, placed};
 ghost use Rattle.copying.specs.Pasted.{Roomy};
-ghost use Rattle.laying.specs.Laid.{laid};
-ghost use Rattle.placing.specs.Placed.{after, bare, EvenTiles, piecesFrom};
+ghost use Rattle.laying.specs.Laid.{LaidIn};
+ghost use Rattle.placing.specs.Placed.{after, bareNow, bareLent, Placeable, RunPlaced};
 use letters::Action;
 use letters::Glyph;
 use runs::Measured;
@@ -51,11 +50,10 @@ fn place_tile(
     to_offsets: &mut [i32],
 ) -> i32
     requires { ⌜ at + (1 + times) ≤ m ⌝ }
-    requires { ⌜ Roomy m (columns (now «to_glyphs») (now «to_widths») (now «to_categories») (now «to_ignorables») (now «to_actions») (now «to_advances») (now «to_offsets»)) ⌝ }
+    requires { ⌜ Roomy m (columnsNow «to_glyphs» «to_widths» «to_categories» «to_ignorables» «to_actions» «to_advances» «to_offsets») ⌝ }
     ensures next { λ r. ⌜ r ≡ after rtl start (pieces times overlap tile) ⌝ }
-    ensures placed { λ _. ⌜ columns (now («to_glyphs» .exit)) (now («to_widths» .exit)) (now («to_categories» .exit)) (now («to_ignorables» .exit)) (now («to_actions» .exit)) (now («to_advances» .exit)) (now («to_offsets» .exit))
-        ≡ laid rtl m at (placed rtl start (pieces times overlap tile))
-        (columns (now («to_glyphs» .entry)) (now («to_widths» .entry)) (now («to_categories» .entry)) (now («to_ignorables» .entry)) (now («to_actions» .entry)) (now («to_advances» .entry)) (now («to_offsets» .entry))) ⌝ }
+    ensures placed { λ _. ⌜ LaidIn rtl m at (placed rtl start (pieces times overlap tile))
+        (columnsLent «to_glyphs» «to_widths» «to_categories» «to_ignorables» «to_actions» «to_advances» «to_offsets») ⌝ }
 {
     let width = tile.width;
     let end = at + 1 + times;
@@ -112,14 +110,12 @@ pub fn place_run(
     to_advances: &mut [i32],
     to_offsets: &mut [i32],
 ) -> usize
-    requires { ⌜ (k ≤ run .past) × (run .past ≤ length (now actions)) ⌝ }
-    requires { ⌜ EvenTiles (bare (now glyphs) (now widths) (now categories) (now ignorables) (now actions)) ⌝ }
-    requires { ⌜ at + length (piecesFrom rtl k run (bare (now glyphs) (now widths) (now categories) (now ignorables) (now actions))) ≤ m ⌝ }
-    requires { ⌜ Roomy m (columns (now «to_glyphs») (now «to_widths») (now «to_categories») (now «to_ignorables») (now «to_actions») (now «to_advances») (now «to_offsets»)) ⌝ }
-    ensures next { λ r. ⌜ r ≡ at + length (piecesFrom rtl k run (bare (now (glyphs .entry)) (now (widths .entry)) (now (categories .entry)) (now (ignorables .entry)) (now (actions .entry)))) ⌝ }
-    ensures placed { λ _. ⌜ columns (now («to_glyphs» .exit)) (now («to_widths» .exit)) (now («to_categories» .exit)) (now («to_ignorables» .exit)) (now («to_actions» .exit)) (now («to_advances» .exit)) (now («to_offsets» .exit))
-        ≡ laid rtl m at (placed rtl (run .start) (piecesFrom rtl k run (bare (now (glyphs .entry)) (now (widths .entry)) (now (categories .entry)) (now (ignorables .entry)) (now (actions .entry)))))
-        (columns (now («to_glyphs» .entry)) (now («to_widths» .entry)) (now («to_categories» .entry)) (now («to_ignorables» .entry)) (now («to_actions» .entry)) (now («to_advances» .entry)) (now («to_offsets» .entry))) ⌝ }
+    requires { ⌜ Placeable rtl k run
+        (bareNow glyphs widths categories ignorables actions)
+        m at (columnsNow «to_glyphs» «to_widths» «to_categories» «to_ignorables» «to_actions» «to_advances» «to_offsets») ⌝ }
+    ensures { λ r. ⌜ RunPlaced rtl k run
+        (bareLent glyphs widths categories ignorables actions)
+        m at r (columnsLent «to_glyphs» «to_widths» «to_categories» «to_ignorables» «to_actions» «to_advances» «to_offsets») ⌝ }
 {
     let n = actions.len();
     let past = run.past;

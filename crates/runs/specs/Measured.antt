@@ -1,26 +1,36 @@
--- What measuring answers, of the records from a place on in the order of the work: `Even` columns of one length; `Lent` columns that a line has; `sumsOf` a run's sums; `wordSum` a word's; `measuredOf` a run with the word before it;
+-- What measuring answers, of the records from a place on in the order of the work: `measuresNow`, `measuresLent` the columns that are measured, from the parameters of a call; `Even` that they are of one length; `Lent` columns that a line has; `sumsOf` a run's sums; `wordSum` a word's; `measuredOf` a run with the word before it;
 -- `NextRun`, `SumsAt`, `WordAt`, `MeasuredAt`, `StretchedLength` what the calls answer: where the next run begins, each of these three, and how many records the stretched line has.
 -- Assumes nothing.
 use mathlib.Core.Path.{_≡_}
 use mathlib.Core.Bool.{Bool, false}
-use mathlib.Core.List.{List, map}
+use mathlib.Core.List.{List, [], map}
 use Prim.Native.Nat.{ℕ, _+_}
 use lib.ListN.{length, drop}
 use lib.IntN.{ℤ, pos}
+use denote.Ref.{now}
+use Rattle.laws.specs.Lent.{Slice, Borrowed}
 use Rattle.laws.specs.Lists.{front}
 use Rattle.letters.specs.Actions.{fixed, repeating}
-use Rattle.runs.specs.Records.{Record, Columns}
+use Rattle.runs.specs.Records.{Record, Columns, columns}
 use Rattle.runs.specs.Runs.{inWord, run, plain, sum, widthOf, tiles, copiesOf, overlapOf, startOf}
 use Rattle.runs.specs.Stretched.{work, worked}
 use Rattle.runs.specs.declared.Sums.{Sums}
 use Rattle.runs.specs.declared.Measured.{Measured}
 
--- the columns that are measured have n numbers each
-pub record Even (n : ℕ) (widths : List ℤ) (categories ignorables : List ℕ) (advances : List ℤ) : Type 0 where
-  pub evenWidths : length widths ≡ n
-  pub evenCategories : length categories ≡ n
-  pub evenIgnorables : length ignorables ≡ n
-  pub evenAdvances : length advances ≡ n
+-- a line of which only what is measured is known, from the parameters of a call; these are only read
+abbrev pub measuresNow : Slice ℤ → Slice ℕ → Slice ℕ → Slice ℕ → Slice ℤ → Columns
+measuresNow widths categories ignorables actions advances = columns [] (now widths) (now categories) (now ignorables) (now actions) (now advances) []
+
+abbrev pub measuresLent : Borrowed ℤ → Borrowed ℕ → Borrowed ℕ → Borrowed ℕ → Borrowed ℤ → Columns
+measuresLent widths categories ignorables actions advances =
+    measuresNow (widths .entry) (categories .entry) (ignorables .entry) (actions .entry) (advances .entry)
+
+-- its columns are of one length
+pub record Even (c : Columns) : Type 0 where
+  pub evenWidths : length (c .widths) ≡ length (c .actions)
+  pub evenCategories : length (c .categories) ≡ length (c .actions)
+  pub evenIgnorables : length (c .ignorables) ≡ length (c .actions)
+  pub evenAdvances : length (c .advances) ≡ length (c .actions)
 
 -- a line has them
 pub record Lent (c : Columns) (widths : List ℤ) (categories ignorables actions : List ℕ) (advances : List ℤ) : Type 0 where
@@ -61,11 +71,11 @@ abbrev pub WordAt : Bool → ℕ → List ℕ → List ℕ → List ℕ → List
 WordAt rtl from categories ignorables actions advances r =
     (c : Columns) → Lent c (c .widths) categories ignorables actions advances → r ≡ wordSum (drop from (work rtl c))
 
-abbrev pub MeasuredAt : Bool → ℕ → List ℤ → List ℕ → List ℕ → List ℕ → List ℤ → Measured → Type 0
-MeasuredAt rtl from widths categories ignorables actions advances r =
-    (c : Columns) → Lent c widths categories ignorables actions advances → r ≡ measuredOf from (drop from (work rtl c))
+abbrev pub MeasuredAt : Bool → ℕ → Columns → Measured → Type 0
+MeasuredAt rtl from l r =
+    (c : Columns) → Lent c (l .widths) (l .categories) (l .ignorables) (l .actions) (l .advances) → r ≡ measuredOf from (drop from (work rtl c))
 
 -- how many records the stretched line has
-abbrev pub StretchedLength : Bool → List ℤ → List ℕ → List ℕ → List ℕ → List ℤ → ℕ → Type 0
-StretchedLength rtl widths categories ignorables actions advances r =
-    (c : Columns) → Lent c widths categories ignorables actions advances → r ≡ length (worked rtl false (work rtl c))
+abbrev pub StretchedLength : Bool → Columns → ℕ → Type 0
+StretchedLength rtl l r =
+    (c : Columns) → Lent c (l .widths) (l .categories) (l .ignorables) (l .actions) (l .advances) → r ≡ length (worked rtl false (work rtl c))

@@ -1,9 +1,12 @@
--- A line that is stretched: `Record` the numbers of a record; `kept`, `put` those that a copy keeps; `Columns`, `columns` the same of all records, column by column; `recordAt`, `listed`, `lineOf` the records of a line's columns; `columnsOf` the columns of records.
+-- A line that is stretched: `Record` the numbers of a record; `kept`, `put` those that a copy keeps; `Columns`, `columns` the same of all records, column by column; `columnsNow`, `columnsLent` these from the parameters of a call; `recordAt`, `listed`, `lineOf` the records of a line's columns; `columnsOf` the columns of records.
 -- Assumes nothing.
 use mathlib.Core.List.{List, [], _∷_, map}
 use Prim.Native.Nat.{ℕ, zero, suc}
 use lib.ListN.{length, getD}
 use lib.IntN.{ℤ, pos}
+use denote.Ref.{now}
+use denote.Triple.Both.{Both}
+use Rattle.laws.specs.Lent.{Slice, Borrowed}
 use Rattle.runs.specs.declared.Tile.{Tile}
 
 -- "The line's columns are glyph, width, category, ignorable, action, advance, offset"
@@ -50,6 +53,17 @@ columns glyphs widths categories ignorables actions advances offsets = record {
   actions = actions;
   advances = advances;
   offsets = offsets;
+}
+
+-- the same from the parameters of a call: as a `requires` has them; and in an `ensures`, as they were lent and as they come back
+abbrev pub columnsNow : Slice ℕ → Slice ℤ → Slice ℕ → Slice ℕ → Slice ℕ → Slice ℤ → Slice ℤ → Columns
+columnsNow glyphs widths categories ignorables actions advances offsets =
+    columns (now glyphs) (now widths) (now categories) (now ignorables) (now actions) (now advances) (now offsets)
+
+abbrev pub columnsLent : Borrowed ℕ → Borrowed ℤ → Borrowed ℕ → Borrowed ℕ → Borrowed ℕ → Borrowed ℤ → Borrowed ℤ → Both Columns Columns
+columnsLent glyphs widths categories ignorables actions advances offsets = record {
+  entry = columnsNow (glyphs .entry) (widths .entry) (categories .entry) (ignorables .entry) (actions .entry) (advances .entry) (offsets .entry);
+  exit = columnsNow (glyphs .exit) (widths .exit) (categories .exit) (ignorables .exit) (actions .exit) (advances .exit) (offsets .exit);
 }
 
 -- the record at a place: the number there of each column, 0 where a column is too short

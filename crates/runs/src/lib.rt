@@ -9,7 +9,7 @@ ghost use Rattle.refusals.specs.Columns.{lineLimit, atMost};
 ghost use Rattle.letters.specs.Actions.{repeating};
 ghost use Rattle.runs.specs.Runs.{tileAction, wordCategories, wordNumbers};
 ghost use Rattle.runs.specs.Stretched.{partOf};
-ghost use Rattle.runs.specs.Measured.{Even, NextRun, SumsAt, WordAt, MeasuredAt, StretchedLength};
+ghost use Rattle.runs.specs.Measured.{measuresNow, measuresLent, Even, NextRun, SumsAt, WordAt, MeasuredAt, StretchedLength};
 use letters::Action;
 use letters::Category;
 use letters::Glyph;
@@ -206,8 +206,8 @@ pub fn measured_at(
 ) -> Measured
     requires { ⌜ from ≤ length (now actions) ⌝ }
     requires { ⌜ length (now actions) ≤ lineLimit ⌝ }
-    requires { ⌜ Even (length (now actions)) (now widths) (now categories) (now ignorables) (now advances) ⌝ }
-    ensures { λ r. ⌜ MeasuredAt rtl from (now (widths .entry)) (now (categories .entry)) (now (ignorables .entry)) (now (actions .entry)) (now (advances .entry)) r ⌝ }
+    requires { ⌜ Even (measuresNow widths categories ignorables actions advances) ⌝ }
+    ensures { λ r. ⌜ MeasuredAt rtl from (measuresLent widths categories ignorables actions advances) r ⌝ }
 {
     let run = sums_at(rtl, from, widths, actions);
     let past = run.past;
@@ -238,8 +238,8 @@ pub fn stretched_length(
 ) -> usize
     requires { ⌜ length (now actions) ≤ lineLimit ⌝ }
     requires { ⌜ atMost repeating (now actions) ≡ true ⌝ }
-    requires { ⌜ Even (length (now actions)) (now widths) (now categories) (now ignorables) (now advances) ⌝ }
-    ensures { λ r. ⌜ StretchedLength rtl (now (widths .entry)) (now (categories .entry)) (now (ignorables .entry)) (now (actions .entry)) (now (advances .entry)) r ⌝ }
+    requires { ⌜ Even (measuresNow widths categories ignorables actions advances) ⌝ }
+    ensures { λ r. ⌜ StretchedLength rtl (measuresLent widths categories ignorables actions advances) r ⌝ }
 {
     let n = actions.len();
     let mut total = n;

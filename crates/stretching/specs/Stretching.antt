@@ -7,7 +7,6 @@ use mathlib.Core.List.{List, [], _∷_, _++_}
 use Prim.Native.Nat.{ℕ}
 use lib.Dec.{eqb, ltb}
 use lib.ListN.{length, drop}
-use lib.IntN.{ℤ}
 use Rattle.laws.specs.Rows.{Row, Given, first}
 use Rattle.refusals.specs.Numbers.{numberOf}
 use Rattle.refusals.specs.Columns.{lineLimit, atMost}
@@ -136,6 +135,6 @@ Stretching q output r left = After (numberSaid r) (outcome (lengthSaid r) left) 
 
 -- ---- what is answered by calls that are lent a part of that
 -- the length of the new line, of any line with these columns
-abbrev pub NewLength : Bool → Bool → List ℤ → List ℕ → List ℕ → List ℕ → List ℤ → ℕ → Type 0
-NewLength recorded rtl widths categories ignorables actions advances r =
-    (c : Columns) → Lent c widths categories ignorables actions advances → r ≡ length (newLine (requestOf recorded rtl c))
+abbrev pub NewLength : Bool → Bool → Columns → ℕ → Type 0
+NewLength recorded rtl l r =
+    (c : Columns) → Lent c (l .widths) (l .categories) (l .ignorables) (l .actions) (l .advances) → r ≡ length (newLine (requestOf recorded rtl c))

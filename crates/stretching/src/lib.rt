@@ -5,8 +5,8 @@ ghost use Prim.Native.Nat.{_≤_};
 ghost use lib.ListN.{length};
 ghost use Rattle.refusals.specs.Columns.{lineLimit, atMost};
 ghost use Rattle.letters.specs.Actions.{repeating};
-ghost use Rattle.runs.specs.Records.{columns};
-ghost use Rattle.runs.specs.Measured.{Even};
+ghost use Rattle.runs.specs.Records.{columnsLent};
+ghost use Rattle.runs.specs.Measured.{measuresNow, measuresLent, Even};
 ghost use Rattle.stretching.specs.Stretching.{stretchedLimit, requestOf, newLine, differing, lacking, numberSaid, lengthSaid, NewLength, Judging, Stretching};
 use letters::Action;
 use letters::Category;
@@ -90,8 +90,8 @@ fn new_length(
     advances: &[i32],
 ) -> usize
     requires { ⌜ (length (now actions) ≤ lineLimit) × (atMost repeating (now actions) ≡ true) ⌝ }
-    requires { ⌜ Even (length (now actions)) (now widths) (now categories) (now ignorables) (now advances) ⌝ }
-    ensures { λ r. ⌜ NewLength recorded rtl (now (widths .entry)) (now (categories .entry)) (now (ignorables .entry)) (now (actions .entry)) (now (advances .entry)) r ⌝ }
+    requires { ⌜ Even (measuresNow widths categories ignorables actions advances) ⌝ }
+    ensures { λ r. ⌜ NewLength recorded rtl (measuresLent widths categories ignorables actions advances) r ⌝ }
 {
     if recorded {
         runs::stretched_length(rtl, widths, categories, ignorables, actions, advances)
@@ -119,7 +119,11 @@ fn judge(
     to_advances: usize,
     to_offsets: usize,
 ) -> Answer
-    ensures { λ r. ⌜ Judging stretchedLimit (requestOf recorded rtl (columns (now (glyphs .entry)) (now (widths .entry)) (now (categories .entry)) (now (ignorables .entry)) (now (actions .entry)) (now (advances .entry)) (now (offsets .entry)))) (lacking (length (newLine (requestOf recorded rtl (columns (now (glyphs .entry)) (now (widths .entry)) (now (categories .entry)) (now (ignorables .entry)) (now (actions .entry)) (now (advances .entry)) (now (offsets .entry)))))) «to_glyphs» «to_widths» «to_categories» «to_ignorables» «to_actions» «to_advances» «to_offsets») r ⌝ }
+    ensures { λ r.
+        let line = columnsLent glyphs widths categories ignorables actions advances offsets in
+        let q = requestOf recorded rtl (line .entry) in
+        let short = lacking (length (newLine q)) «to_glyphs» «to_widths» «to_categories» «to_ignorables» «to_actions» «to_advances» «to_offsets» in
+        ⌜ Judging stretchedLimit q short r ⌝ }
 {
     if differ(
         actions.len(),
@@ -187,7 +191,10 @@ pub fn stretch(
     to_advances: &mut [i32],
     to_offsets: &mut [i32],
 ) -> Answer
-    ensures { λ r. ⌜ Stretching (requestOf recorded rtl (columns (now (glyphs .entry)) (now (widths .entry)) (now (categories .entry)) (now (ignorables .entry)) (now (actions .entry)) (now (advances .entry)) (now (offsets .entry)))) (columns (now («to_glyphs» .entry)) (now («to_widths» .entry)) (now («to_categories» .entry)) (now («to_ignorables» .entry)) (now («to_actions» .entry)) (now («to_advances» .entry)) (now («to_offsets» .entry))) r (columns (now («to_glyphs» .exit)) (now («to_widths» .exit)) (now («to_categories» .exit)) (now («to_ignorables» .exit)) (now («to_actions» .exit)) (now («to_advances» .exit)) (now («to_offsets» .exit))) ⌝ }
+    ensures { λ r.
+        let line = columnsLent glyphs widths categories ignorables actions advances offsets in
+        let output = columnsLent «to_glyphs» «to_widths» «to_categories» «to_ignorables» «to_actions» «to_advances» «to_offsets» in
+        ⌜ Stretching (requestOf recorded rtl (line .entry)) (output .entry) r (output .exit) ⌝ }
 {
     let answer = judge(
         recorded,

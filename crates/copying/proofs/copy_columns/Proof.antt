@@ -8,25 +8,25 @@ use Rattle.copying.proofs.copy_columns.Statement.{statement}
 use Rattle.copying.proofs.copy_columns.Tie as tie
 
 copy-numbers-requires : tie.Need-copy-numbers-requires
-copy-numbers-requires c κs = let s = c .before .before .before .before .before .before .before .before .before in (omega (arith, s .pre .0, s .pre .1 .0 .evenGlyphs), omega (arith, s .pre .1 .1 .forGlyphs))
+copy-numbers-requires c κs = let s = c .before .before .before .before .before .before .before .before .before in (omega (arith, s .pre .inside, s .pre .even .evenGlyphs), omega (arith, s .pre .room .forGlyphs))
 
 copy-signed-requires : tie.Need-copy-signed-requires
-copy-signed-requires c κs = let s = c .before .before .before .before .before .before .before .before .before .before .before .before .before in (omega (arith, s .pre .0, s .pre .1 .0 .evenWidths), omega (arith, s .pre .1 .1 .forWidths))
+copy-signed-requires c κs = let s = c .before .before .before .before .before .before .before .before .before .before .before .before .before in (omega (arith, s .pre .inside, s .pre .even .evenWidths), omega (arith, s .pre .room .forWidths))
 
 copy-bytes-requires : tie.Need-copy-bytes-requires
-copy-bytes-requires c κs = let s = c .before .before .before .before .before .before .before .before .before .before .before .before .before .before .before .before in (omega (arith, s .pre .0, s .pre .1 .0 .evenCategories), omega (arith, s .pre .1 .1 .forCategories))
+copy-bytes-requires c κs = let s = c .before .before .before .before .before .before .before .before .before .before .before .before .before .before .before .before in (omega (arith, s .pre .inside, s .pre .even .evenCategories), omega (arith, s .pre .room .forCategories))
 
 copy-bytes-requires-2 : tie.Need-copy-bytes-requires-2
-copy-bytes-requires-2 c κs = let s = c .before .before .before .before .before .before .before .before .before .before .before .before .before .before .before .before .before .before .before .before in (omega (arith, s .pre .0, s .pre .1 .0 .evenIgnorables), omega (arith, s .pre .1 .1 .forIgnorables))
+copy-bytes-requires-2 c κs = let s = c .before .before .before .before .before .before .before .before .before .before .before .before .before .before .before .before .before .before .before .before in (omega (arith, s .pre .inside, s .pre .even .evenIgnorables), omega (arith, s .pre .room .forIgnorables))
 
 copy-bytes-requires-3 : tie.Need-copy-bytes-requires-3
-copy-bytes-requires-3 c κs = let s = c .before .before .before .before .before .before .before .before .before .before .before .before .before .before .before .before .before .before .before .before .before .before .before .before in (omega (arith, s .pre .0), omega (arith, s .pre .1 .1 .forActions))
+copy-bytes-requires-3 c κs = let s = c .before .before .before .before .before .before .before .before .before .before .before .before .before .before .before .before .before .before .before .before .before .before .before .before in (omega (arith, s .pre .inside), omega (arith, s .pre .room .forActions))
 
 copy-signed-requires-2 : tie.Need-copy-signed-requires-2
-copy-signed-requires-2 c κs = let s = c .before .before .before .before .before .before .before .before .before .before .before .before .before .before .before .before .before .before .before .before .before .before .before .before .before .before .before .before in (omega (arith, s .pre .0, s .pre .1 .0 .evenAdvances), omega (arith, s .pre .1 .1 .forAdvances))
+copy-signed-requires-2 c κs = let s = c .before .before .before .before .before .before .before .before .before .before .before .before .before .before .before .before .before .before .before .before .before .before .before .before .before .before .before .before in (omega (arith, s .pre .inside, s .pre .even .evenAdvances), omega (arith, s .pre .room .forAdvances))
 
 copy-signed-requires-3 : tie.Need-copy-signed-requires-3
-copy-signed-requires-3 c κs = let s = c .before .before .before .before .before .before .before .before .before .before .before .before .before .before .before .before .before .before .before .before .before .before .before .before .before .before .before .before .before .before .before in (omega (arith, s .pre .0, s .pre .1 .0 .evenOffsets), omega (arith, s .pre .1 .1 .forOffsets))
+copy-signed-requires-3 c κs = let s = c .before .before .before .before .before .before .before .before .before .before .before .before .before .before .before .before .before .before .before .before .before .before .before .before .before .before .before .before .before .before .before in (omega (arith, s .pre .inside, s .pre .even .evenOffsets), omega (arith, s .pre .room .forOffsets))
 
 same-length : tie.Need-same-length
 same-length c = search needs

@@ -19,91 +19,91 @@ abbrev μ-loop : tie.MeasureT-loop
 
 -- the place is one that memory has
 low : (c : tie.In-loop Inv-loop μ-loop) → (c .before .before .before .before .before .before .before .before .before .before .args .o + c .before .loop .j) * 4 < 18446744073709551616
-low c = omega (arith, c .loop-test .taken, c .before .loop .inv .ofWidths .long, c .before .before .before .before .before .before .before .before .before .before .pre .1 .1 .forWidths)
+low c = omega (arith, c .loop-test .taken, c .before .loop .inv .ofWidths .long, c .before .before .before .before .before .before .before .before .before .before .pre .room .forWidths)
 
 loop-holds : tie.Need-loop-holds Inv-loop μ-loop
 loop-holds c = copying-all-starts _ _ _ _ _
 
 add-at : tie.Need-add-at Inv-loop μ-loop
-add-at c = omega (arith, c .loop-test .taken, c .before .before .before .before .before .before .before .before .before .before .pre .0, c .before .before .before .before .before .before .before .before .before .before .pre .1 .0 .evenWidths)
+add-at c = omega (arith, c .loop-test .taken, c .before .before .before .before .before .before .before .before .before .before .pre .inside, c .before .before .before .before .before .before .before .before .before .before .pre .even .evenWidths)
 
 at-requires : tie.Need-at-requires Inv-loop μ-loop
-at-requires c κs = omega (arith, c .loop-test .taken, c .before .before .before .before .before .before .before .before .before .before .pre .0, c .before .before .before .before .before .before .before .before .before .before .pre .1 .0 .evenWidths)
+at-requires c κs = omega (arith, c .loop-test .taken, c .before .before .before .before .before .before .before .before .before .before .pre .inside, c .before .before .before .before .before .before .before .before .before .before .pre .even .evenWidths)
 
 add-at-2 : tie.Need-add-at-2 Inv-loop μ-loop
-add-at-2 c = omega (arith, c .before .loop-test .taken, c .before .before .before .before .before .before .before .before .before .before .before .pre .0, c .before .before .before .before .before .before .before .before .before .before .before .pre .1 .0 .evenAdvances)
+add-at-2 c = omega (arith, c .before .loop-test .taken, c .before .before .before .before .before .before .before .before .before .before .before .pre .inside, c .before .before .before .before .before .before .before .before .before .before .before .pre .even .evenAdvances)
 
 at-requires-2 : tie.Need-at-requires-2 Inv-loop μ-loop
-at-requires-2 c κs = omega (arith, c .before .loop-test .taken, c .before .before .before .before .before .before .before .before .before .before .before .pre .0, c .before .before .before .before .before .before .before .before .before .before .before .pre .1 .0 .evenAdvances)
+at-requires-2 c κs = omega (arith, c .before .loop-test .taken, c .before .before .before .before .before .before .before .before .before .before .before .pre .inside, c .before .before .before .before .before .before .before .before .before .before .before .pre .even .evenAdvances)
 
 add-at-3 : tie.Need-add-at-3 Inv-loop μ-loop
-add-at-3 c = omega (arith, c .before .before .loop-test .taken, c .before .before .before .before .before .before .before .before .before .before .before .before .pre .0, c .before .before .before .before .before .before .before .before .before .before .before .before .pre .1 .0 .evenOffsets)
+add-at-3 c = omega (arith, c .before .before .loop-test .taken, c .before .before .before .before .before .before .before .before .before .before .before .before .pre .inside, c .before .before .before .before .before .before .before .before .before .before .before .before .pre .even .evenOffsets)
 
 at-requires-3 : tie.Need-at-requires-3 Inv-loop μ-loop
-at-requires-3 c κs = omega (arith, c .before .before .loop-test .taken, c .before .before .before .before .before .before .before .before .before .before .before .before .pre .0, c .before .before .before .before .before .before .before .before .before .before .before .before .pre .1 .0 .evenOffsets)
+at-requires-3 c κs = omega (arith, c .before .before .loop-test .taken, c .before .before .before .before .before .before .before .before .before .before .before .before .pre .inside, c .before .before .before .before .before .before .before .before .before .before .before .before .pre .even .evenOffsets)
 
 add-to-glyphs : tie.Need-add-to-glyphs Inv-loop μ-loop
-add-to-glyphs c = omega (arith, c .before .before .before .loop-test .taken, c .before .before .before .before .before .before .before .before .before .before .before .before .before .pre .0, c .before .before .before .before .before .before .before .before .before .before .before .before .before .pre .1 .0 .evenGlyphs)
+add-to-glyphs c = omega (arith, c .before .before .before .loop-test .taken, c .before .before .before .before .before .before .before .before .before .before .before .before .before .pre .inside, c .before .before .before .before .before .before .before .before .before .before .before .before .before .pre .even .evenGlyphs)
 
 mul-to-glyphs : tie.Need-mul-to-glyphs Inv-loop μ-loop
-mul-to-glyphs c = omega (arith, c .before .before .before .loop-test .taken, c .before .before .before .before .before .before .before .before .before .before .before .before .before .pre .0, c .before .before .before .before .before .before .before .before .before .before .before .before .before .pre .1 .0 .evenGlyphs)
+mul-to-glyphs c = omega (arith, c .before .before .before .loop-test .taken, c .before .before .before .before .before .before .before .before .before .before .before .before .before .pre .inside, c .before .before .before .before .before .before .before .before .before .before .before .before .before .pre .even .evenGlyphs)
 
 shared-slice-read-to-glyphs : tie.Need-shared-slice-read-to-glyphs Inv-loop μ-loop
-shared-slice-read-to-glyphs c = omega (arith, c .before .before .before .before .loop-test .taken, c .before .before .before .before .before .before .before .before .before .before .before .before .before .before .pre .0, c .before .before .before .before .before .before .before .before .before .before .before .before .before .before .pre .1 .0 .evenGlyphs)
+shared-slice-read-to-glyphs c = omega (arith, c .before .before .before .before .loop-test .taken, c .before .before .before .before .before .before .before .before .before .before .before .before .before .before .pre .inside, c .before .before .before .before .before .before .before .before .before .before .before .before .before .before .pre .even .evenGlyphs)
 
 add-to-glyphs-2 : tie.Need-add-to-glyphs-2 Inv-loop μ-loop
-add-to-glyphs-2 c = omega (arith, c .before .before .before .before .loop-test .taken, c .before .before .before .before .before .loop .inv .ofGlyphs .long, c .before .before .before .before .before .before .before .before .before .before .before .before .before .before .pre .1 .1 .forGlyphs)
+add-to-glyphs-2 c = omega (arith, c .before .before .before .before .loop-test .taken, c .before .before .before .before .before .loop .inv .ofGlyphs .long, c .before .before .before .before .before .before .before .before .before .before .before .before .before .before .pre .room .forGlyphs)
 
 mul-to-glyphs-2 : tie.Need-mul-to-glyphs-2 Inv-loop μ-loop
-mul-to-glyphs-2 c = omega (arith, c .before .before .before .before .loop-test .taken, c .before .before .before .before .before .loop .inv .ofGlyphs .long, c .before .before .before .before .before .before .before .before .before .before .before .before .before .before .pre .1 .1 .forGlyphs)
+mul-to-glyphs-2 c = omega (arith, c .before .before .before .before .loop-test .taken, c .before .before .before .before .before .loop .inv .ofGlyphs .long, c .before .before .before .before .before .before .before .before .before .before .before .before .before .before .pre .room .forGlyphs)
 
 slice-write-to-glyphs : tie.Need-slice-write-to-glyphs Inv-loop μ-loop
-slice-write-to-glyphs c = omega (arith, c .before .before .before .before .loop-test .taken, c .before .before .before .before .before .loop .inv .ofGlyphs .long, c .before .before .before .before .before .before .before .before .before .before .before .before .before .before .pre .1 .1 .forGlyphs)
+slice-write-to-glyphs c = omega (arith, c .before .before .before .before .loop-test .taken, c .before .before .before .before .before .loop .inv .ofGlyphs .long, c .before .before .before .before .before .before .before .before .before .before .before .before .before .before .pre .room .forGlyphs)
 
 add-width : tie.Need-add-width Inv-loop μ-loop
-add-width c = omega (arith, c .before .before .before .before .loop-test .taken, c .before .before .before .before .before .loop .inv .ofWidths .long, c .before .before .before .before .before .before .before .before .before .before .before .before .before .before .pre .1 .1 .forWidths)
+add-width c = omega (arith, c .before .before .before .before .loop-test .taken, c .before .before .before .before .before .loop .inv .ofWidths .long, c .before .before .before .before .before .before .before .before .before .before .before .before .before .before .pre .room .forWidths)
 
 mul-width : tie.Need-mul-width Inv-loop μ-loop
-mul-width c = omega (arith, c .before .before .before .before .loop-test .taken, c .before .before .before .before .before .loop .inv .ofWidths .long, c .before .before .before .before .before .before .before .before .before .before .before .before .before .before .pre .1 .1 .forWidths)
+mul-width c = omega (arith, c .before .before .before .before .loop-test .taken, c .before .before .before .before .before .loop .inv .ofWidths .long, c .before .before .before .before .before .before .before .before .before .before .before .before .before .before .pre .room .forWidths)
 
 slice-set-from-width : tie.Need-slice-set-from-width Inv-loop μ-loop
-slice-set-from-width c = omega (arith, c .before .before .before .before .loop-test .taken, c .before .before .before .before .before .loop .inv .ofWidths .long, c .before .before .before .before .before .before .before .before .before .before .before .before .before .before .pre .1 .1 .forWidths)
+slice-set-from-width c = omega (arith, c .before .before .before .before .loop-test .taken, c .before .before .before .before .before .loop .inv .ofWidths .long, c .before .before .before .before .before .before .before .before .before .before .before .before .before .before .pre .room .forWidths)
 
 add-to-categories : tie.Need-add-to-categories Inv-loop μ-loop
-add-to-categories c = omega (arith, c .before .before .before .before .loop-test .taken, c .before .before .before .before .before .before .before .before .before .before .before .before .before .before .pre .0, c .before .before .before .before .before .before .before .before .before .before .before .before .before .before .pre .1 .0 .evenCategories)
+add-to-categories c = omega (arith, c .before .before .before .before .loop-test .taken, c .before .before .before .before .before .before .before .before .before .before .before .before .before .before .pre .inside, c .before .before .before .before .before .before .before .before .before .before .before .before .before .before .pre .even .evenCategories)
 
 shared-slice-read-to-categories : tie.Need-shared-slice-read-to-categories Inv-loop μ-loop
-shared-slice-read-to-categories c = omega (arith, c .before .before .before .before .before .loop-test .taken, c .before .before .before .before .before .before .before .before .before .before .before .before .before .before .before .pre .0, c .before .before .before .before .before .before .before .before .before .before .before .before .before .before .before .pre .1 .0 .evenCategories)
+shared-slice-read-to-categories c = omega (arith, c .before .before .before .before .before .loop-test .taken, c .before .before .before .before .before .before .before .before .before .before .before .before .before .before .before .pre .inside, c .before .before .before .before .before .before .before .before .before .before .before .before .before .before .before .pre .even .evenCategories)
 
 add-to-categories-2 : tie.Need-add-to-categories-2 Inv-loop μ-loop
-add-to-categories-2 c = omega (arith, c .before .before .before .before .before .loop-test .taken, c .before .before .before .before .before .before .loop .inv .ofCategories .long, c .before .before .before .before .before .before .before .before .before .before .before .before .before .before .before .pre .1 .1 .forCategories)
+add-to-categories-2 c = omega (arith, c .before .before .before .before .before .loop-test .taken, c .before .before .before .before .before .before .loop .inv .ofCategories .long, c .before .before .before .before .before .before .before .before .before .before .before .before .before .before .before .pre .room .forCategories)
 
 slice-write-to-categories : tie.Need-slice-write-to-categories Inv-loop μ-loop
-slice-write-to-categories c = omega (arith, c .before .before .before .before .before .loop-test .taken, c .before .before .before .before .before .before .loop .inv .ofCategories .long, c .before .before .before .before .before .before .before .before .before .before .before .before .before .before .before .pre .1 .1 .forCategories)
+slice-write-to-categories c = omega (arith, c .before .before .before .before .before .loop-test .taken, c .before .before .before .before .before .before .loop .inv .ofCategories .long, c .before .before .before .before .before .before .before .before .before .before .before .before .before .before .before .pre .room .forCategories)
 
 add-to-ignorables : tie.Need-add-to-ignorables Inv-loop μ-loop
-add-to-ignorables c = omega (arith, c .before .before .before .before .before .loop-test .taken, c .before .before .before .before .before .before .before .before .before .before .before .before .before .before .before .pre .0, c .before .before .before .before .before .before .before .before .before .before .before .before .before .before .before .pre .1 .0 .evenIgnorables)
+add-to-ignorables c = omega (arith, c .before .before .before .before .before .loop-test .taken, c .before .before .before .before .before .before .before .before .before .before .before .before .before .before .before .pre .inside, c .before .before .before .before .before .before .before .before .before .before .before .before .before .before .before .pre .even .evenIgnorables)
 
 shared-slice-read-to-ignorables : tie.Need-shared-slice-read-to-ignorables Inv-loop μ-loop
-shared-slice-read-to-ignorables c = omega (arith, c .before .before .before .before .before .before .loop-test .taken, c .before .before .before .before .before .before .before .before .before .before .before .before .before .before .before .before .pre .0, c .before .before .before .before .before .before .before .before .before .before .before .before .before .before .before .before .pre .1 .0 .evenIgnorables)
+shared-slice-read-to-ignorables c = omega (arith, c .before .before .before .before .before .before .loop-test .taken, c .before .before .before .before .before .before .before .before .before .before .before .before .before .before .before .before .pre .inside, c .before .before .before .before .before .before .before .before .before .before .before .before .before .before .before .before .pre .even .evenIgnorables)
 
 add-to-ignorables-2 : tie.Need-add-to-ignorables-2 Inv-loop μ-loop
-add-to-ignorables-2 c = omega (arith, c .before .before .before .before .before .before .loop-test .taken, c .before .before .before .before .before .before .before .loop .inv .ofIgnorables .long, c .before .before .before .before .before .before .before .before .before .before .before .before .before .before .before .before .pre .1 .1 .forIgnorables)
+add-to-ignorables-2 c = omega (arith, c .before .before .before .before .before .before .loop-test .taken, c .before .before .before .before .before .before .before .loop .inv .ofIgnorables .long, c .before .before .before .before .before .before .before .before .before .before .before .before .before .before .before .before .pre .room .forIgnorables)
 
 slice-write-to-ignorables : tie.Need-slice-write-to-ignorables Inv-loop μ-loop
-slice-write-to-ignorables c = omega (arith, c .before .before .before .before .before .before .loop-test .taken, c .before .before .before .before .before .before .before .loop .inv .ofIgnorables .long, c .before .before .before .before .before .before .before .before .before .before .before .before .before .before .before .before .pre .1 .1 .forIgnorables)
+slice-write-to-ignorables c = omega (arith, c .before .before .before .before .before .before .loop-test .taken, c .before .before .before .before .before .before .before .loop .inv .ofIgnorables .long, c .before .before .before .before .before .before .before .before .before .before .before .before .before .before .before .before .pre .room .forIgnorables)
 
 add-to-actions : tie.Need-add-to-actions Inv-loop μ-loop
-add-to-actions c = omega (arith, c .before .before .before .before .before .before .loop-test .taken, c .before .before .before .before .before .before .before .before .before .before .before .before .before .before .before .before .pre .0)
+add-to-actions c = omega (arith, c .before .before .before .before .before .before .loop-test .taken, c .before .before .before .before .before .before .before .before .before .before .before .before .before .before .before .before .pre .inside)
 
 shared-slice-read-to-actions : tie.Need-shared-slice-read-to-actions Inv-loop μ-loop
-shared-slice-read-to-actions c = omega (arith, c .before .before .before .before .before .before .before .loop-test .taken, c .before .before .before .before .before .before .before .before .before .before .before .before .before .before .before .before .before .pre .0)
+shared-slice-read-to-actions c = omega (arith, c .before .before .before .before .before .before .before .loop-test .taken, c .before .before .before .before .before .before .before .before .before .before .before .before .before .before .before .before .before .pre .inside)
 
 add-to-actions-2 : tie.Need-add-to-actions-2 Inv-loop μ-loop
 add-to-actions-2 c = record { fits = omega (arith, low (c .before .before .before .before .before .before .before)) }
 
 slice-write-to-actions : tie.Need-slice-write-to-actions Inv-loop μ-loop
-slice-write-to-actions c = omega (arith, c .before .before .before .before .before .before .before .loop-test .taken, c .before .before .before .before .before .before .before .before .loop .inv .ofActions .long, c .before .before .before .before .before .before .before .before .before .before .before .before .before .before .before .before .before .pre .1 .1 .forActions)
+slice-write-to-actions c = omega (arith, c .before .before .before .before .before .before .before .loop-test .taken, c .before .before .before .before .before .before .before .before .loop .inv .ofActions .long, c .before .before .before .before .before .before .before .before .before .before .before .before .before .before .before .before .before .pre .room .forActions)
 
 add-advance : tie.Need-add-advance Inv-loop μ-loop
 add-advance c = record { fits = omega (arith, low (c .before .before .before .before .before .before .before)) }
@@ -112,7 +112,7 @@ mul-advance : tie.Need-mul-advance Inv-loop μ-loop
 mul-advance c = record { fits = omega (arith, low (c .before .before .before .before .before .before .before)) }
 
 slice-set-from-advance : tie.Need-slice-set-from-advance Inv-loop μ-loop
-slice-set-from-advance c = omega (arith, c .before .before .before .before .before .before .before .loop-test .taken, c .before .before .before .before .before .before .before .before .loop .inv .ofAdvances .long, c .before .before .before .before .before .before .before .before .before .before .before .before .before .before .before .before .before .pre .1 .1 .forAdvances)
+slice-set-from-advance c = omega (arith, c .before .before .before .before .before .before .before .loop-test .taken, c .before .before .before .before .before .before .before .before .loop .inv .ofAdvances .long, c .before .before .before .before .before .before .before .before .before .before .before .before .before .before .before .before .before .pre .room .forAdvances)
 
 add-offset : tie.Need-add-offset Inv-loop μ-loop
 add-offset c = record { fits = omega (arith, low (c .before .before .before .before .before .before .before)) }
@@ -121,10 +121,10 @@ mul-offset : tie.Need-mul-offset Inv-loop μ-loop
 mul-offset c = record { fits = omega (arith, low (c .before .before .before .before .before .before .before)) }
 
 slice-set-from-offset : tie.Need-slice-set-from-offset Inv-loop μ-loop
-slice-set-from-offset c = omega (arith, c .before .before .before .before .before .before .before .loop-test .taken, c .before .before .before .before .before .before .before .before .loop .inv .ofOffsets .long, c .before .before .before .before .before .before .before .before .before .before .before .before .before .before .before .before .before .pre .1 .1 .forOffsets)
+slice-set-from-offset c = omega (arith, c .before .before .before .before .before .before .before .loop-test .taken, c .before .before .before .before .before .before .before .before .loop .inv .ofOffsets .long, c .before .before .before .before .before .before .before .before .before .before .before .before .before .before .before .before .before .pre .room .forOffsets)
 
 add-j : tie.Need-add-j Inv-loop μ-loop
-add-j c = omega (arith, c .before .before .before .before .before .before .before .loop-test .taken, c .before .before .before .before .before .before .before .before .before .before .before .before .before .before .before .before .before .pre .0)
+add-j c = omega (arith, c .before .before .before .before .before .before .before .loop-test .taken, c .before .before .before .before .before .before .before .before .before .before .before .before .before .before .before .before .before .pre .inside)
 
 loop-less : tie.Need-loop-less Inv-loop μ-loop
 loop-less c = omega (arith, c .before .before .before .before .before .before .before .loop-test .taken)
@@ -138,7 +138,7 @@ loop-again c =
     let advance-fits : SFits w32 (c .before .before .before .before .before .at2 .result) = record { sfits = c .before .before .before .before .before .at2 .ok } in
     let offset-fits : SFits w32 (c .before .before .before .before .at3 .result) = record { sfits = c .before .before .before .before .at3 .ok } in
     rw (back width-fits, back advance-fits, back offset-fits, c .before .before .before .before .before .before .at .ensures, c .before .before .before .before .before .at2 .ensures, c .before .before .before .before .at3 .ensures)
-    (copying-all-next (a .i) (a .s) (columns (a .glyphs .now) (a .widths .now) (a .categories .now) (a .ignorables .now) (a .actions .now) (a .advances .now) (a .offsets .now)) (a .o) _ (t .loop .j) _ (t .loop .inv) (s .pre .0) (s .pre .1 .0) (s .pre .1 .1) (c .before .before .before .before .before .before .before .loop-test .taken))
+    (copying-all-next (a .i) (a .s) (columns (a .glyphs .now) (a .widths .now) (a .categories .now) (a .ignorables .now) (a .actions .now) (a .advances .now) (a .offsets .now)) (a .o) _ (t .loop .j) _ (t .loop .inv) (s .pre .inside) (s .pre .even) (s .pre .room) (c .before .before .before .before .before .before .before .loop-test .taken))
 
 same-length : tie.Need-same-length Inv-loop μ-loop
 same-length c = c .before .loop .inv .ofGlyphs .long
@@ -166,7 +166,7 @@ returns c =
     let t = c .before in
     let s = c .before .before .before .before .before .before .before .before .before .before in
     let a = s .args in
-    copying-all-ends (a .i) (a .s) (columns (a .glyphs .now) (a .widths .now) (a .categories .now) (a .ignorables .now) (a .actions .now) (a .advances .now) (a .offsets .now)) (a .o) _ (t .loop .j) _ (t .loop .inv) (s .pre .0) (s .pre .1 .0) (s .pre .1 .1) (c .loop-test .left)
+    copying-all-ends (a .i) (a .s) (columns (a .glyphs .now) (a .widths .now) (a .categories .now) (a .ignorables .now) (a .actions .now) (a .advances .now) (a .offsets .now)) (a .o) _ (t .loop .j) _ (t .loop .inv) (s .pre .inside) (s .pre .even) (s .pre .room) (c .loop-test .left)
 
 pub copy-records-spec : {M : Type 1} → statement M
 copy-records-spec =

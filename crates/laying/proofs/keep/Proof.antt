@@ -15,7 +15,7 @@ use Rattle.laying.proofs.keep.Tie as tie
 within : (c : tie.After-part2) → (c .before .part .result + c .before .before .before .before .before .before .before .before .before .before .args .s ≤ length (c .before .before .before .before .before .before .before .before .before .before .args .actions .now)) × (c .part2 .result + c .before .before .before .before .before .before .before .before .before .before .args .s ≤ c .before .before .before .before .before .before .before .before .before .before .args .m)
 within c =
     let a = c .before .before .before .before .before .before .before .before .before .before .args in
-    (rw (c .before .part .ensures) (part-fits (a .rtl) (length (a .actions .now)) (a .k) (a .s) (c .before .before .before .before .before .before .before .before .before .before .pre .0 .0)), rw (c .part2 .ensures) (part-fits (a .rtl) (a .m) (a .at) (a .s) (c .before .before .before .before .before .before .before .before .before .before .pre .0 .1)))
+    (rw (c .before .part .ensures) (part-fits (a .rtl) (length (a .actions .now)) (a .k) (a .s) (c .before .before .before .before .before .before .before .before .before .before .pre .inside)), rw (c .part2 .ensures) (part-fits (a .rtl) (a .m) (a .at) (a .s) (c .before .before .before .before .before .before .before .before .before .before .pre .there)))
 
 part-requires : tie.Need-part-requires
 part-requires c κs = search needs
@@ -27,13 +27,13 @@ copy-records-requires : tie.Need-copy-records-requires
 copy-records-requires c κs =
     let s = c .before .before .before .before .before .before .before .before .before .before .before .before .before .before .before .before .before .before in
     let w = within (c .before .before .before .before .before .before .before .before) in
-    (w .0, (s .pre .1 .0, roomy-less (w .1) (s .pre .1 .1)))
+    record { inside = w .0; even = s .pre .even; room = roomy-less (w .1) (s .pre .room) }
 
 copy-columns-requires : tie.Need-copy-columns-requires
 copy-columns-requires c κs =
     let s = c .before .before .before .before .before .before .before .before .before .before .before .before .before .before .before .before .before .before in
     let w = within (c .before .before .before .before .before .before .before .before) in
-    (w .0, (s .pre .1 .0, roomy-less (w .1) (s .pre .1 .1)))
+    record { inside = w .0; even = s .pre .even; room = roomy-less (w .1) (s .pre .room) }
 
 same-length : tie.Need-same-length
 same-length c = search needs
@@ -62,7 +62,7 @@ returns c =
     let a = s .args in
     c .before .before .before .before .before .before .before .before .before .before .before .copy-records .ensures
     ∙ copied-part (a .rtl) (a .m) (a .at) (a .k) (a .s) (c .before .before .before .before .before .before .before .before .before .before .before .before .before .before .before .before .before .before .before .before .before .part .result) (c .before .before .before .before .before .before .before .before .before .before .before .before .before .before .before .before .before .before .before .before .part2 .result) (columns (a .glyphs .now) (a .widths .now) (a .categories .now) (a .ignorables .now) (a .actions .now) (a .advances .now) (a .offsets .now)) _
-    (s .pre .1 .0) (s .pre .0 .0) (c .before .before .before .before .before .before .before .before .before .before .before .before .before .before .before .before .before .before .before .before .before .part .ensures) (c .before .before .before .before .before .before .before .before .before .before .before .before .before .before .before .before .before .before .before .before .part2 .ensures)
+    (s .pre .even) (s .pre .inside) (c .before .before .before .before .before .before .before .before .before .before .before .before .before .before .before .before .before .before .before .before .before .part .ensures) (c .before .before .before .before .before .before .before .before .before .before .before .before .before .before .before .before .before .before .before .before .part2 .ensures)
 
 same-length-8 : tie.Need-same-length-8
 same-length-8 c = search needs
@@ -91,7 +91,7 @@ returns-2 c =
     let a = s .args in
     c .before .before .before .before .before .before .before .before .before .before .before .copy-columns .ensures
     ∙ copied-part (a .rtl) (a .m) (a .at) (a .k) (a .s) (c .before .before .before .before .before .before .before .before .before .before .before .before .before .before .before .before .before .before .before .before .before .part .result) (c .before .before .before .before .before .before .before .before .before .before .before .before .before .before .before .before .before .before .before .before .part2 .result) (columns (a .glyphs .now) (a .widths .now) (a .categories .now) (a .ignorables .now) (a .actions .now) (a .advances .now) (a .offsets .now)) _
-    (s .pre .1 .0) (s .pre .0 .0) (c .before .before .before .before .before .before .before .before .before .before .before .before .before .before .before .before .before .before .before .before .before .part .ensures) (c .before .before .before .before .before .before .before .before .before .before .before .before .before .before .before .before .before .before .before .before .part2 .ensures)
+    (s .pre .even) (s .pre .inside) (c .before .before .before .before .before .before .before .before .before .before .before .before .before .before .before .before .before .before .before .before .before .part .ensures) (c .before .before .before .before .before .before .before .before .before .before .before .before .before .before .before .before .before .before .before .before .part2 .ensures)
 
 pub keep-spec : {M : Type 1} → statement M
 keep-spec =

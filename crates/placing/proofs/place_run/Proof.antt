@@ -39,7 +39,7 @@ start-fits c = search needs
 spot : (c : tie.After-part Inv-loop μ-loop) → c .part .result < length (c .before .before .before .before .before .before .before .before .before .before .before .before .before .args .actions .now)
 spot c =
     let s = c .before .before .before .before .before .before .before .before .before .before .before .before .before in
-    rw (c .part .ensures) (spot-below (s .args .rtl) (length (s .args .actions .now)) (c .before .before .loop .i) (omega (arith, c .before .loop-test .taken, s .pre .0 .1)))
+    rw (c .part .ensures) (spot-below (s .args .rtl) (length (s .args .actions .now)) (c .before .before .loop .i) (omega (arith, c .before .loop-test .taken, s .pre .inside)))
 
 -- the tile there has room, with its copies
 tile-fits : (c : tie.After-times-of Inv-loop μ-loop) → c .before .before .before .before .loop .next + (1 + c .times-of .result) ≤ c .before .before .before .before .before .before .before .before .before .before .before .before .before .before .before .args .m
@@ -49,14 +49,14 @@ tile-fits c =
     let s = c .before .before .before .before .before .before .before .before .before .before .before .before .before .before .before in
     let a = s .args in
     let p = c .before .before .part in
-    running-fits (a .rtl) (a .m) (bare (a .glyphs .now) (a .widths .now) (a .categories .now) (a .ignorables .now) (a .actions .now)) _ (a .run .past) (a .run .copies) _ _ _ (t .loop .i) (t .loop .next) (toZ w32 (t .loop .x)) _ (t .loop .inv) (s .pre .0 .1) (rw (back (overlap-fits (c .before .before .before .before .before))) (s .pre .1 .1 .0)) (c .before .before .before .loop-test .taken)
+    running-fits (a .rtl) (a .m) (bare (a .glyphs .now) (a .widths .now) (a .categories .now) (a .ignorables .now) (a .actions .now)) _ (a .run .past) (a .run .copies) _ _ _ (t .loop .i) (t .loop .next) (toZ w32 (t .loop .x)) _ (t .loop .inv) (s .pre .inside) (rw (back (overlap-fits (c .before .before .before .before .before))) (s .pre .there)) (c .before .before .before .loop-test .taken)
     (p .result) (p .ensures) (kept (recordAt (bare (a .glyphs .now) (a .widths .now) (a .categories .now) (a .ignorables .now) (a .actions .now)) (p .result))) refl (c .times-of .result) (c .times-of .ensures)
 
 loop-holds : tie.Need-loop-holds Inv-loop μ-loop
-loop-holds c = let s = c .before .before .before .before .before .before .before .before .before .before in running-starts _ _ _ _ (s .args .k) (s .args .at) _ _ _ _ (s .pre .0 .0)
+loop-holds c = let s = c .before .before .before .before .before .before .before .before .before .before in running-starts _ _ _ _ (s .args .k) (s .args .at) _ _ _ _ (s .pre .begun)
 
 part-requires : tie.Need-part-requires Inv-loop μ-loop
-part-requires c κs = omega (arith, c .loop-test .taken, c .before .before .before .before .before .before .before .before .before .before .before .before .pre .0 .1)
+part-requires c κs = omega (arith, c .loop-test .taken, c .before .before .before .before .before .before .before .before .before .before .before .before .pre .inside)
 
 shared-slice-read-action : tie.Need-shared-slice-read-action Inv-loop μ-loop
 shared-slice-read-action c = omega (arith, spot (c .before))
@@ -65,22 +65,22 @@ times-of-requires : tie.Need-times-of-requires Inv-loop μ-loop
 times-of-requires c κs = search needs
 
 at-requires : tie.Need-at-requires Inv-loop μ-loop
-at-requires c κs = omega (arith, spot (c .before .before), c .before .before .before .before .before .before .before .before .before .before .before .before .before .before .before .pre .1 .0 .tileWidths)
+at-requires c κs = omega (arith, spot (c .before .before), c .before .before .before .before .before .before .before .before .before .before .before .before .before .before .before .pre .even .tileWidths)
 
 mul-t33 : tie.Need-mul-t33 Inv-loop μ-loop
-mul-t33 c = omega (arith, spot (c .before .before .before), c .before .before .before .before .before .before .before .before .before .before .before .before .before .before .before .before .pre .1 .0 .tileGlyphs)
+mul-t33 c = omega (arith, spot (c .before .before .before), c .before .before .before .before .before .before .before .before .before .before .before .before .before .before .before .before .pre .even .tileGlyphs)
 
 shared-slice-read-t35 : tie.Need-shared-slice-read-t35 Inv-loop μ-loop
-shared-slice-read-t35 c = omega (arith, spot (c .before .before .before .before), c .before .before .before .before .before .before .before .before .before .before .before .before .before .before .before .before .before .pre .1 .0 .tileGlyphs)
+shared-slice-read-t35 c = omega (arith, spot (c .before .before .before .before), c .before .before .before .before .before .before .before .before .before .before .before .before .before .before .before .before .before .pre .even .tileGlyphs)
 
 shared-slice-read-t32 : tie.Need-shared-slice-read-t32 Inv-loop μ-loop
-shared-slice-read-t32 c = omega (arith, spot (c .before .before .before .before .before), c .before .before .before .before .before .before .before .before .before .before .before .before .before .before .before .before .before .before .pre .1 .0 .tileCategories)
+shared-slice-read-t32 c = omega (arith, spot (c .before .before .before .before .before), c .before .before .before .before .before .before .before .before .before .before .before .before .before .before .before .before .before .before .pre .even .tileCategories)
 
 shared-slice-read-t39 : tie.Need-shared-slice-read-t39 Inv-loop μ-loop
-shared-slice-read-t39 c = omega (arith, spot (c .before .before .before .before .before .before), c .before .before .before .before .before .before .before .before .before .before .before .before .before .before .before .before .before .before .before .pre .1 .0 .tileIgnorables)
+shared-slice-read-t39 c = omega (arith, spot (c .before .before .before .before .before .before), c .before .before .before .before .before .before .before .before .before .before .before .before .before .before .before .before .before .before .before .pre .even .tileIgnorables)
 
 place-tile-requires : tie.Need-place-tile-requires Inv-loop μ-loop
-place-tile-requires c κs = (tile-fits (c .before .before .before .before .before .before .before .before .before .before .before), roomy-same (c .before .before .before .before .before .before .before .before .before .before .before .before .before .before .before .loop .inv .same) (c .before .before .before .before .before .before .before .before .before .before .before .before .before .before .before .before .before .before .before .before .before .before .before .before .before .before .pre .1 .1 .1))
+place-tile-requires c κs = (tile-fits (c .before .before .before .before .before .before .before .before .before .before .before), roomy-same (c .before .before .before .before .before .before .before .before .before .before .before .before .before .before .before .loop .inv .same) (c .before .before .before .before .before .before .before .before .before .before .before .before .before .before .before .before .before .before .before .before .before .before .before .before .before .before .pre .room))
 
 add-next : tie.Need-add-next Inv-loop μ-loop
 add-next c = record { fits = omega (arith, tile-fits (c .before .before .before .before .before .before .before .before .before .before .before .before .before .before .before .before .before .before .before .before .before .before .before), c .before .before .before .before .before .before .before .before .before .before .before .before .before .before .before .before .before .before .before .before .before .before .before .before .before .before .before .before .before .before .before .before .before .before .before .before .before .before .fits .m) }
@@ -103,8 +103,8 @@ loop-again c =
     let p = c .before .before .before .before .before .before .before .before .before .before .before .before .before .before .before .before .before .before .before .before .before .before .before .before .before .part in
     let width-fits : SFits w32 (c .before .before .before .before .before .before .before .before .before .before .before .before .before .before .before .before .before .before .before .before .before .before .at .result) = record { sfits = c .before .before .before .before .before .before .before .before .before .before .before .before .before .before .before .before .before .before .before .before .before .before .at .ok } in
     let x-fits : SFits w32 (c .before .before .before .before .before .before .before .before .before .before .before .place-tile .result) = record { sfits = c .before .before .before .before .before .before .before .before .before .before .before .place-tile .ok } in
-    rw (back x-fits) (running-next (a .rtl) (a .m) (bare (a .glyphs .now) (a .widths .now) (a .categories .now) (a .ignorables .now) (a .actions .now)) _ (a .run .past) (a .run .copies) _ _ _ (t .loop .i) (t .loop .next) (toZ w32 (t .loop .x)) _ (t .loop .inv) (s .pre .0 .1) (rw (back (overlap-fits (c .before .before .before .before .before .before .before .before .before .before .before .before .before .before .before .before .before .before .before .before .before .before .before .before .before .before .before .before))) (s .pre .1 .1 .0)) (c .before .before .before .before .before .before .before .before .before .before .before .before .before .before .before .before .before .before .before .before .before .before .before .before .before .before .loop-test .taken)
-    (p .result) (p .ensures) _ (tile-is (rw (back width-fits) (c .before .before .before .before .before .before .before .before .before .before .before .before .before .before .before .before .before .before .before .before .before .before .at .ensures))) (c .before .before .before .before .before .before .before .before .before .before .before .before .before .before .before .before .before .before .before .before .before .before .before .times-of .result) (c .before .before .before .before .before .before .before .before .before .before .before .before .before .before .before .before .before .before .before .before .before .before .before .times-of .ensures) (s .pre .1 .1 .1)
+    rw (back x-fits) (running-next (a .rtl) (a .m) (bare (a .glyphs .now) (a .widths .now) (a .categories .now) (a .ignorables .now) (a .actions .now)) _ (a .run .past) (a .run .copies) _ _ _ (t .loop .i) (t .loop .next) (toZ w32 (t .loop .x)) _ (t .loop .inv) (s .pre .inside) (rw (back (overlap-fits (c .before .before .before .before .before .before .before .before .before .before .before .before .before .before .before .before .before .before .before .before .before .before .before .before .before .before .before .before))) (s .pre .there)) (c .before .before .before .before .before .before .before .before .before .before .before .before .before .before .before .before .before .before .before .before .before .before .before .before .before .before .loop-test .taken)
+    (p .result) (p .ensures) _ (tile-is (rw (back width-fits) (c .before .before .before .before .before .before .before .before .before .before .before .before .before .before .before .before .before .before .before .before .before .before .at .ensures))) (c .before .before .before .before .before .before .before .before .before .before .before .before .before .before .before .before .before .before .before .before .before .before .before .times-of .result) (c .before .before .before .before .before .before .before .before .before .before .before .before .before .before .before .before .before .before .before .before .before .before .before .times-of .ensures) (s .pre .room)
     (c .before .before .before .before .before .before .before .before .before .before .before .place-tile .result) (c .before .before .before .before .before .before .before .before .before .before .before .place-tile .ensures .0) _ (c .before .before .before .before .before .before .before .before .before .before .before .place-tile .ensures .1))
 
 same-length : tie.Need-same-length Inv-loop μ-loop
@@ -135,8 +135,9 @@ returns c =
     let s = c .before .before .before .before .before .before .before .before .before .before .before .before in
     let a = s .args in
     let told = c .before .before in
-    let e = running-ends (a .rtl) (a .m) (bare (a .glyphs .now) (a .widths .now) (a .categories .now) (a .ignorables .now) (a .actions .now)) _ (a .run .past) (a .run .copies) _ _ _ (t .loop .i) (t .loop .next) (toZ w32 (t .loop .x)) _ (t .loop .inv) (s .pre .0 .1) (rw (back (overlap-fits told)) (s .pre .1 .1 .0)) (c .loop-test .left) in
-    rw (back (start-fits told), back (overlap-fits told)) at e
+    let e = running-ends (a .rtl) (a .m) (bare (a .glyphs .now) (a .widths .now) (a .categories .now) (a .ignorables .now) (a .actions .now)) _ (a .run .past) (a .run .copies) _ _ _ (t .loop .i) (t .loop .next) (toZ w32 (t .loop .x)) _ (t .loop .inv) (s .pre .inside) (rw (back (overlap-fits told)) (s .pre .there)) (c .loop-test .left) in
+    let f = rw (back (start-fits told), back (overlap-fits told)) at e in
+    record { comesThen = f .0; piecesLaid = f .1 }
 
 pub place-run-spec : {M : Type 1} → statement M
 place-run-spec =

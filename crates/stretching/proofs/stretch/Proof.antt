@@ -69,7 +69,13 @@ write-requires c κs =
     let t = c .before .before .before .before .before .before .before .before .before in
     let a = given t in
     let long : said t ≡ length (newLine (asked s)) = length-said t in
-    ((a .few, a .known), (a .even, (long ∙ (rw (c .before .before .before .before .before .before .before .if1 .taken) (length-recorded (s .args .rtl) (asked s .line))), rw long (a .room))))
+    record {
+      few = a .few;
+      known = a .known;
+      even = a .even;
+      long = long ∙ (rw (c .before .before .before .before .before .before .before .if1 .taken) (length-recorded (s .args .rtl) (asked s .line)));
+      room = rw long (a .room);
+    }
 
 keep-requires : tie.Need-keep-requires
 keep-requires c κs =
@@ -78,7 +84,7 @@ keep-requires c κs =
     let a = given t in
     let long : said t ≡ length (newLine (asked s)) = length-said t in
     let whole : said t ≡ length (s .args .actions .now) = long ∙ (rw (c .before .before .before .before .before .before .before .if1 .left) (length-line (asked s .line))) in
-    ((omega (arith, whole), omega arith), (a .even, rw long (a .room)))
+    record { inside = omega (arith, whole); there = omega arith; even = a .even; room = rw long (a .room) }
 
 returns : tie.Need-returns
 returns c =

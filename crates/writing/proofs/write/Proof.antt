@@ -7,9 +7,9 @@ use native.Mathlib.Omega.{arith}
 use lib.ListN.{length}
 use Rattle.runs.specs.Records.{columns}
 use Rattle.runs.specs.Stretched.{work, worked}
-use Rattle.runs.specs.Measured.{Even, Lent}
+use Rattle.runs.specs.Measured.{measuresNow, Even, Lent}
 use Rattle.laying.specs.Laid.{laid}
-use Rattle.placing.specs.Placed.{EvenTiles, bare}
+use Rattle.placing.specs.Placed.{bareNow, EvenTiles}
 use Rattle.copying.proofs.ColumnsLaws.{roomy-same}
 use Rattle.writing.proofs.WriteLaws.{Writing, writing-starts, next-fits, past-fits, past-above, kept-fits, room-kept, run-has-room, writing-next, writing-ends}
 use Rattle.writing.proofs.write.Statement.{statement}
@@ -28,21 +28,21 @@ abbrev μ-loop : tie.MeasureT-loop
 lent-all : (s : tie.Start Inv-loop μ-loop) → Lent (columns (s .args .glyphs .now) (s .args .widths .now) (s .args .categories .now) (s .args .ignorables .now) (s .args .actions .now) (s .args .advances .now) (s .args .offsets .now)) (s .args .widths .now) (s .args .categories .now) (s .args .ignorables .now) (s .args .actions .now) (s .args .advances .now)
 lent-all s = record { hasWidths = refl; hasCategories = refl; hasIgnorables = refl; hasActions = refl; hasAdvances = refl }
 
-even-sums : (s : tie.Start Inv-loop μ-loop) → Even (length (s .args .actions .now)) (s .args .widths .now) (s .args .categories .now) (s .args .ignorables .now) (s .args .advances .now)
+even-sums : (s : tie.Start Inv-loop μ-loop) → Even (measuresNow (s .args .widths) (s .args .categories) (s .args .ignorables) (s .args .actions) (s .args .advances))
 even-sums s =
-    let e = s .pre .1 .0 in
+    let e = s .pre .even in
     record { evenWidths = e .evenWidths; evenCategories = e .evenCategories; evenIgnorables = e .evenIgnorables; evenAdvances = e .evenAdvances }
 
-even-tiles : (s : tie.Start Inv-loop μ-loop) → EvenTiles (bare (s .args .glyphs .now) (s .args .widths .now) (s .args .categories .now) (s .args .ignorables .now) (s .args .actions .now))
+even-tiles : (s : tie.Start Inv-loop μ-loop) → EvenTiles (bareNow (s .args .glyphs) (s .args .widths) (s .args .categories) (s .args .ignorables) (s .args .actions))
 even-tiles s =
-    let e = s .pre .1 .0 in
+    let e = s .pre .even in
     record { tileGlyphs = e .evenGlyphs; tileWidths = e .evenWidths; tileCategories = e .evenCategories; tileIgnorables = e .evenIgnorables }
 
 loop-holds : tie.Need-loop-holds Inv-loop μ-loop
-loop-holds c = let s = c .before .before .before .before .before .before .before .before in writing-starts _ _ _ _ (s .pre .1 .1 .0)
+loop-holds c = let s = c .before .before .before .before .before .before .before .before in writing-starts _ _ _ _ (s .pre .long)
 
 next-run-requires : tie.Need-next-run-requires Inv-loop μ-loop
-next-run-requires c κs = (c .before .loop .inv .fits, c .before .before .before .before .before .before .before .before .before .before .pre .0 .1)
+next-run-requires c κs = (c .before .loop .inv .fits, c .before .before .before .before .before .before .before .before .before .before .pre .known)
 
 sub-s : tie.Need-sub-s Inv-loop μ-loop
 sub-s c =
@@ -56,14 +56,15 @@ keep-requires c κs =
     let t = c .before .before .before .before .before .before .before .before .before in
     let s = c .before .before .before .before .before .before .before .before .before .before .before .before .before .before .before .before .before .before in
     let a = s .args in
-    (kept-fits (a .rtl) (a .m) (columns (a .glyphs .now) (a .widths .now) (a .categories .now) (a .ignorables .now) (a .actions .now) (a .advances .now) (a .offsets .now)) _ _ (t .loop .k) (t .loop .at) _ (t .loop .inv) (c .before .before .before .before .before .before .before .next-run .result) (c .before .before .before .before .before .before .before .next-run .ensures (columns (a .glyphs .now) (a .widths .now) (a .categories .now) (a .ignorables .now) (a .actions .now) (a .advances .now) (a .offsets .now)) refl), (s .pre .1 .0, roomy-same (t .loop .inv .same) (s .pre .1 .1 .1)))
+    let fit = kept-fits (a .rtl) (a .m) (columns (a .glyphs .now) (a .widths .now) (a .categories .now) (a .ignorables .now) (a .actions .now) (a .advances .now) (a .offsets .now)) _ _ (t .loop .k) (t .loop .at) _ (t .loop .inv) (c .before .before .before .before .before .before .before .next-run .result) (c .before .before .before .before .before .before .before .next-run .ensures (columns (a .glyphs .now) (a .widths .now) (a .categories .now) (a .ignorables .now) (a .actions .now) (a .advances .now) (a .offsets .now)) refl) in
+    record { inside = fit .0; there = fit .1; even = s .pre .even; room = roomy-same (t .loop .inv .same) (s .pre .room) }
 
 measured-at-requires : tie.Need-measured-at-requires Inv-loop μ-loop
 measured-at-requires c κs =
     let t = c .before .before .before .before .before .before .before .before .before .before .before .before .before .before .before .before .before .before .before .before .before in
     let s = c .before .before .before .before .before .before .before .before .before .before .before .before .before .before .before .before .before .before .before .before .before .before .before .before .before .before .before .before .before .before in
     let a = s .args in
-    (next-fits (a .rtl) (a .m) (columns (a .glyphs .now) (a .widths .now) (a .categories .now) (a .ignorables .now) (a .actions .now) (a .advances .now) (a .offsets .now)) _ _ (t .loop .k) (t .loop .at) _ (t .loop .inv) (c .before .before .before .before .before .before .before .before .before .before .before .before .before .before .before .before .before .before .before .next-run .result) (c .before .before .before .before .before .before .before .before .before .before .before .before .before .before .before .before .before .before .before .next-run .ensures (columns (a .glyphs .now) (a .widths .now) (a .categories .now) (a .ignorables .now) (a .actions .now) (a .advances .now) (a .offsets .now)) refl), (s .pre .0 .0, even-sums s))
+    (next-fits (a .rtl) (a .m) (columns (a .glyphs .now) (a .widths .now) (a .categories .now) (a .ignorables .now) (a .actions .now) (a .advances .now) (a .offsets .now)) _ _ (t .loop .k) (t .loop .at) _ (t .loop .inv) (c .before .before .before .before .before .before .before .before .before .before .before .before .before .before .before .before .before .before .before .next-run .result) (c .before .before .before .before .before .before .before .before .before .before .before .before .before .before .before .before .before .before .before .next-run .ensures (columns (a .glyphs .now) (a .widths .now) (a .categories .now) (a .ignorables .now) (a .actions .now) (a .advances .now) (a .offsets .now)) refl), (s .pre .few, even-sums s))
 
 add-place-run : tie.Need-add-place-run Inv-loop μ-loop
 add-place-run c =
@@ -77,7 +78,14 @@ place-run-requires c κs =
     let t = c .before .before .before .before .before .before .before .before .before .before .before .before .before .before .before .before .before .before .before .before .before .before .before .before .before .before .before .before .before in
     let s = c .before .before .before .before .before .before .before .before .before .before .before .before .before .before .before .before .before .before .before .before .before .before .before .before .before .before .before .before .before .before .before .before .before .before .before .before .before .before in
     let a = s .args in
-    (past-fits (a .rtl) (a .m) (columns (a .glyphs .now) (a .widths .now) (a .categories .now) (a .ignorables .now) (a .actions .now) (a .advances .now) (a .offsets .now)) _ _ (t .loop .k) (t .loop .at) _ (t .loop .inv) (c .before .before .before .before .before .before .before .before .before .before .before .before .before .before .before .before .before .before .before .before .before .before .before .before .before .before .before .next-run .result) (c .before .before .before .before .before .before .before .before .before .before .before .before .before .before .before .before .before .before .before .before .before .before .before .before .before .before .before .next-run .ensures (columns (a .glyphs .now) (a .widths .now) (a .categories .now) (a .ignorables .now) (a .actions .now) (a .advances .now) (a .offsets .now)) refl) (c .before .before .before .before .before .before .before .measured-at .result) (c .before .before .before .before .before .before .before .measured-at .ensures (columns (a .glyphs .now) (a .widths .now) (a .categories .now) (a .ignorables .now) (a .actions .now) (a .advances .now) (a .offsets .now)) (lent-all s)), (even-tiles s, (run-has-room (a .rtl) (a .m) (columns (a .glyphs .now) (a .widths .now) (a .categories .now) (a .ignorables .now) (a .actions .now) (a .advances .now) (a .offsets .now)) _ _ (t .loop .k) (t .loop .at) _ (t .loop .inv) (c .before .before .before .before .before .before .before .before .before .before .before .before .before .before .before .before .before .before .before .before .before .before .before .before .before .before .before .next-run .result) (c .before .before .before .before .before .before .before .before .before .before .before .before .before .before .before .before .before .before .before .before .before .before .before .before .before .before .before .next-run .ensures (columns (a .glyphs .now) (a .widths .now) (a .categories .now) (a .ignorables .now) (a .actions .now) (a .advances .now) (a .offsets .now)) refl) (c .before .before .before .before .before .before .before .measured-at .result) (c .before .before .before .before .before .before .before .measured-at .ensures (columns (a .glyphs .now) (a .widths .now) (a .categories .now) (a .ignorables .now) (a .actions .now) (a .advances .now) (a .offsets .now)) (lent-all s)), room-kept (a .rtl) (a .m) (columns (a .glyphs .now) (a .widths .now) (a .categories .now) (a .ignorables .now) (a .actions .now) (a .advances .now) (a .offsets .now)) _ _ (t .loop .k) (t .loop .at) _ (t .loop .inv) (c .before .before .before .before .before .before .before .before .before .before .before .before .before .before .before .before .before .before .before .before .before .before .before .before .before .before .before .next-run .result) (c .before .before .before .before .before .before .before .before .before .before .before .before .before .before .before .before .before .before .before .before .before .before .before .before .before .before .before .next-run .ensures (columns (a .glyphs .now) (a .widths .now) (a .categories .now) (a .ignorables .now) (a .actions .now) (a .advances .now) (a .offsets .now)) refl) (s .pre .1 .1 .1) _ (c .before .before .before .before .before .before .before .before .before .before .before .before .before .before .before .before .before .before .before .keep .ensures))))
+    let fit = past-fits (a .rtl) (a .m) (columns (a .glyphs .now) (a .widths .now) (a .categories .now) (a .ignorables .now) (a .actions .now) (a .advances .now) (a .offsets .now)) _ _ (t .loop .k) (t .loop .at) _ (t .loop .inv) (c .before .before .before .before .before .before .before .before .before .before .before .before .before .before .before .before .before .before .before .before .before .before .before .before .before .before .before .next-run .result) (c .before .before .before .before .before .before .before .before .before .before .before .before .before .before .before .before .before .before .before .before .before .before .before .before .before .before .before .next-run .ensures (columns (a .glyphs .now) (a .widths .now) (a .categories .now) (a .ignorables .now) (a .actions .now) (a .advances .now) (a .offsets .now)) refl) (c .before .before .before .before .before .before .before .measured-at .result) (c .before .before .before .before .before .before .before .measured-at .ensures (columns (a .glyphs .now) (a .widths .now) (a .categories .now) (a .ignorables .now) (a .actions .now) (a .advances .now) (a .offsets .now)) (lent-all s)) in
+    record {
+      begun = fit .0;
+      inside = fit .1;
+      even = even-tiles s;
+      there = run-has-room (a .rtl) (a .m) (columns (a .glyphs .now) (a .widths .now) (a .categories .now) (a .ignorables .now) (a .actions .now) (a .advances .now) (a .offsets .now)) _ _ (t .loop .k) (t .loop .at) _ (t .loop .inv) (c .before .before .before .before .before .before .before .before .before .before .before .before .before .before .before .before .before .before .before .before .before .before .before .before .before .before .before .next-run .result) (c .before .before .before .before .before .before .before .before .before .before .before .before .before .before .before .before .before .before .before .before .before .before .before .before .before .before .before .next-run .ensures (columns (a .glyphs .now) (a .widths .now) (a .categories .now) (a .ignorables .now) (a .actions .now) (a .advances .now) (a .offsets .now)) refl) (c .before .before .before .before .before .before .before .measured-at .result) (c .before .before .before .before .before .before .before .measured-at .ensures (columns (a .glyphs .now) (a .widths .now) (a .categories .now) (a .ignorables .now) (a .actions .now) (a .advances .now) (a .offsets .now)) (lent-all s));
+      room = room-kept (a .rtl) (a .m) (columns (a .glyphs .now) (a .widths .now) (a .categories .now) (a .ignorables .now) (a .actions .now) (a .advances .now) (a .offsets .now)) _ _ (t .loop .k) (t .loop .at) _ (t .loop .inv) (c .before .before .before .before .before .before .before .before .before .before .before .before .before .before .before .before .before .before .before .before .before .before .before .before .before .before .before .next-run .result) (c .before .before .before .before .before .before .before .before .before .before .before .before .before .before .before .before .before .before .before .before .before .before .before .before .before .before .before .next-run .ensures (columns (a .glyphs .now) (a .widths .now) (a .categories .now) (a .ignorables .now) (a .actions .now) (a .advances .now) (a .offsets .now)) refl) (s .pre .room) _ (c .before .before .before .before .before .before .before .before .before .before .before .before .before .before .before .before .before .before .before .keep .ensures);
+    }
 
 loop-less : tie.Need-loop-less Inv-loop μ-loop
 loop-less c =
@@ -91,7 +99,7 @@ loop-again c =
     let t = c .before .before .before .before .before .before .before .before .before .before .before .before .before .before .before .before .before .before .before .before .before .before .before .before .before .before .before .before .before .before .before .before .before .before .before .before .before .before .before .before .before in
     let s = c .before .before .before .before .before .before .before .before .before .before .before .before .before .before .before .before .before .before .before .before .before .before .before .before .before .before .before .before .before .before .before .before .before .before .before .before .before .before .before .before .before .before .before .before .before .before .before .before .before .before in
     let a = s .args in
-    writing-next (a .rtl) (a .m) (columns (a .glyphs .now) (a .widths .now) (a .categories .now) (a .ignorables .now) (a .actions .now) (a .advances .now) (a .offsets .now)) _ _ (t .loop .k) (t .loop .at) _ (t .loop .inv) (c .before .before .before .before .before .before .before .before .before .before .before .before .before .before .before .before .before .before .before .before .before .before .before .before .before .before .before .before .before .before .before .before .before .before .before .before .before .before .before .next-run .result) (c .before .before .before .before .before .before .before .before .before .before .before .before .before .before .before .before .before .before .before .before .before .before .before .before .before .before .before .before .before .before .before .before .before .before .before .before .before .before .before .next-run .ensures (columns (a .glyphs .now) (a .widths .now) (a .categories .now) (a .ignorables .now) (a .actions .now) (a .advances .now) (a .offsets .now)) refl) (c .before .before .before .before .before .before .before .before .before .before .before .before .before .before .before .before .before .before .before .measured-at .result) (c .before .before .before .before .before .before .before .before .before .before .before .before .before .before .before .before .before .before .before .measured-at .ensures (columns (a .glyphs .now) (a .widths .now) (a .categories .now) (a .ignorables .now) (a .actions .now) (a .advances .now) (a .offsets .now)) (lent-all s)) (s .pre .1 .1 .1) _ _ (c .before .before .before .before .before .before .before .before .before .before .before .before .before .before .before .before .before .before .before .before .before .before .before .before .before .before .before .before .before .before .before .keep .ensures) (c .before .before .before .before .before .before .before .before .before .before .before .place-run .ensures .1) (c .before .before .before .before .before .before .before .before .before .before .before .place-run .result) (c .before .before .before .before .before .before .before .before .before .before .before .place-run .ensures .0)
+    writing-next (a .rtl) (a .m) (columns (a .glyphs .now) (a .widths .now) (a .categories .now) (a .ignorables .now) (a .actions .now) (a .advances .now) (a .offsets .now)) _ _ (t .loop .k) (t .loop .at) _ (t .loop .inv) (c .before .before .before .before .before .before .before .before .before .before .before .before .before .before .before .before .before .before .before .before .before .before .before .before .before .before .before .before .before .before .before .before .before .before .before .before .before .before .before .next-run .result) (c .before .before .before .before .before .before .before .before .before .before .before .before .before .before .before .before .before .before .before .before .before .before .before .before .before .before .before .before .before .before .before .before .before .before .before .before .before .before .before .next-run .ensures (columns (a .glyphs .now) (a .widths .now) (a .categories .now) (a .ignorables .now) (a .actions .now) (a .advances .now) (a .offsets .now)) refl) (c .before .before .before .before .before .before .before .before .before .before .before .before .before .before .before .before .before .before .before .measured-at .result) (c .before .before .before .before .before .before .before .before .before .before .before .before .before .before .before .before .before .before .before .measured-at .ensures (columns (a .glyphs .now) (a .widths .now) (a .categories .now) (a .ignorables .now) (a .actions .now) (a .advances .now) (a .offsets .now)) (lent-all s)) (s .pre .room) _ _ (c .before .before .before .before .before .before .before .before .before .before .before .before .before .before .before .before .before .before .before .before .before .before .before .before .before .before .before .before .before .before .before .keep .ensures) (c .before .before .before .before .before .before .before .before .before .before .before .place-run .ensures .piecesLaid) (c .before .before .before .before .before .before .before .before .before .before .before .place-run .result) (c .before .before .before .before .before .before .before .before .before .before .before .place-run .ensures .comesThen)
 
 same-length : tie.Need-same-length Inv-loop μ-loop
 same-length c = c .before .loop .inv .same .sameGlyphs

@@ -1,17 +1,17 @@
--- `copying::copy_numbers` meets its contract: what is left of the part, pasted, makes the whole.
+-- `parts::copy_numbers` meets its contract: what is left of the part, pasted, makes the whole.
 -- Assumes nothing.
 use mathlib.Core.Path.{refl}
 use Prim.Native.Nat.{_-_}
 use native.Mathlib.Omega.{arith}
 use Rattle.laws.proofs.PasteLaws.{Copying, copying-starts, copying-next, copying-ends}
-use Rattle.copying.proofs.copy_numbers.Statement.{statement}
-use Rattle.copying.proofs.copy_numbers.Tie as tie
+use Rattle.parts.proofs.copy_numbers.Statement.{statement}
+use Rattle.parts.proofs.copy_numbers.Tie as tie
 
 abbrev Inv-loop : tie.InvT-loop
-Inv-loop from i s to₀ o j₀ to j = Copying from to₀ i s o j to
+Inv-loop from i s to₀ o k₀ to k = Copying from to₀ i s o k to
 
 abbrev μ-loop : tie.MeasureT-loop
-μ-loop from i s to₀ o j₀ to j = s - j
+μ-loop from i s to₀ o k₀ to k = s - k
 
 loop-holds : tie.Need-loop-holds Inv-loop μ-loop
 loop-holds c = copying-starts _ _ _ _ _
@@ -34,8 +34,8 @@ mul-to-2 c = omega arith
 slice-write-to : tie.Need-slice-write-to Inv-loop μ-loop
 slice-write-to c = omega arith
 
-add-j : tie.Need-add-j Inv-loop μ-loop
-add-j c = omega arith
+add-k : tie.Need-add-k Inv-loop μ-loop
+add-k c = omega arith
 
 loop-less : tie.Need-loop-less Inv-loop μ-loop
 loop-less c = omega arith
@@ -44,7 +44,7 @@ loop-again : tie.Need-loop-again Inv-loop μ-loop
 loop-again c =
     let t = c .before .before in
     let a = t .before .args in
-    copying-next (a .from .now) _ (a .i) (a .s) (a .o) (t .loop .to) (t .loop .j) (t .loop .inv) (t .before .pre .0) (t .before .pre .1) _ 0 (c .before .loop-test .taken) refl
+    copying-next (a .from .now) _ (a .i) (a .s) (a .o) (t .loop .to) (t .loop .k) (t .loop .inv) (t .before .pre .0) (t .before .pre .1) _ 0 (c .before .loop-test .taken) refl
 
 same-length : tie.Need-same-length Inv-loop μ-loop
 same-length c = omega arith
@@ -53,7 +53,7 @@ returns : tie.Need-returns Inv-loop μ-loop
 returns c =
     let t = c .before in
     let a = t .before .args in
-    copying-ends (a .from .now) _ (a .i) (a .s) (a .o) (t .loop .to) (t .loop .j) (t .loop .inv) (t .before .pre .0) (t .before .pre .1) (c .loop-test .left)
+    copying-ends (a .from .now) _ (a .i) (a .s) (a .o) (t .loop .to) (t .loop .k) (t .loop .inv) (t .before .pre .0) (t .before .pre .1) (c .loop-test .left)
 
 pub copy-numbers-spec : {M : Type 1} → statement M
 copy-numbers-spec =
@@ -68,7 +68,7 @@ copy-numbers-spec =
     add-to-2
     mul-to-2
     slice-write-to
-    add-j
+    add-k
     loop-less
     loop-again
     same-length

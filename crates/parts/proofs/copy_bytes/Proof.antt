@@ -1,11 +1,11 @@
--- `copying::copy_bytes` meets its contract: what is left of the part, pasted, makes the whole.
+-- `parts::copy_bytes` meets its contract: what is left of the part, pasted, makes the whole.
 -- Assumes nothing.
 use mathlib.Core.Path.{refl}
 use Prim.Native.Nat.{_-_}
 use native.Mathlib.Omega.{arith}
 use Rattle.laws.proofs.PasteLaws.{Copying, copying-starts, copying-next, copying-ends}
-use Rattle.copying.proofs.copy_bytes.Statement.{statement}
-use Rattle.copying.proofs.copy_bytes.Tie as tie
+use Rattle.parts.proofs.copy_bytes.Statement.{statement}
+use Rattle.parts.proofs.copy_bytes.Tie as tie
 
 abbrev Inv-loop : tie.InvT-loop
 Inv-loop from i s to₀ o j₀ to j = Copying from to₀ i s o j to

@@ -1,0 +1,3 @@
+-- What the contracts of `writing` cite.
+-- Assumes nothing.
+pub mod Whole

@@ -19,11 +19,11 @@ use Rattle.layouts.specs.declared.Kind.the-variants.{Single}
 use Rattle.layouts.specs.declared.Written.the-variants.{Bytes}
 use Rattle.layouts.specs.Tables.{first}
 use Rattle.layouts.specs.Lookups.{Lookup, lookupOf, wordsOf}
-use Rattle.layouts.specs.Written.{outcome, writeRefusal, Writing}
+use Rattle.layouts.specs.Written.{writeOutcome, writeRefusal, Writing}
 use Rattle.layouts.proofs.WrittenLaws.{none-given}
 use Rattle.scanning.specs.Exact.{asRead, Readable}
 use Rattle.reading.specs.declared.Answer.{Answer}
-use Rattle.reading.specs.Read.{Columns, numberSaid, Reading}
+use Rattle.reading.specs.Read.{Columns, readNumber, Reading}
 use Rattle.ordering.proofs.OrderLaws.{stable-once}
 use Rattle.drafts.specs.Entries.{Entry, bytesOf, sizeOf, allBytes, masksOf, lengthsOf, ruleLimit}
 use Rattle.fallback.specs.declared.FallbackPlan.{FallbackPlan}
@@ -44,12 +44,12 @@ module _ (l : Lookup) (q : Readable l) where
   -- its bytes are read
   reads-bytes :
       (c : Columns) → length (l .glyphs) ≤ length (c .glyphs) → length (l .substitutes) ≤ length (c .substitutes)
-      → (a : Answer) (list : Columns) → Reading (bytes (wordsOf l)) c a list → (numberSaid a ≡ 0) × (lookupSaid a list ≡ asRead l)
+      → (a : Answer) (list : Columns) → Reading (bytes (wordsOf l)) c a list → (readNumber a ≡ 0) × (lookupSaid a list ≡ asRead l)
   reads-bytes c g s a list y =
       let b : List ℕ = bytes (wordsOf l) in
       let size : ℕ = 2 * length (wordsOf l) in
       let asked : Writing l b (Bytes size) (b ++ drop size b) =
-      left-done (writeRefusal l (length b)) (outcome 0 b) _ 0 _ (sym (unrefused (length b) (omega (arith, length-bytes (wordsOf l))))) refl refl
+      left-done (writeRefusal l (length b)) (writeOutcome 0 b) _ 0 _ (sym (unrefused (length b) (omega (arith, length-bytes (wordsOf l))))) refl refl
       in
       let front : take size (b ++ drop size b) ≡ b = take-at b (drop size b) size (length-bytes (wordsOf l)) in
       reads-back l b (Bytes size) (b ++ drop size b) asked refl (q .up) c g s a list (rw front y)
@@ -87,7 +87,7 @@ module _ (i : Inputs) (area : List ℕ) (r : FallbackPlan) (left : List ℕ) (x 
     read :
         (c : Columns) → length (e .lookup .glyphs) ≤ length (c .glyphs) → length (e .lookup .substitutes) ≤ length (c .substitutes)
         → (a : Answer) (list : Columns) → Reading (cutOut (length before) r left) c a list
-        → (numberSaid a ≡ 0) × (lookupSaid a list ≡ e .lookup) × (getD (r .masks) (length before) 0 ≡ e .mask)
+        → (readNumber a ≡ 0) × (lookupSaid a list ≡ e .lookup) × (getD (r .masks) (length before) 0 ≡ e .mask)
     read c g t a list y =
         let back = reads-bytes (e .lookup) (good .readable) c g t a list (rw (← cut) y) in
         (back .0, back .1 ∙ good .same, mask)
@@ -148,7 +148,7 @@ module _ (i : Inputs) (area : List ℕ) (r : FallbackPlan) (left : List ℕ) (x 
   -- what is read there is the entry of that place
   pub place-read :
       (c : Columns) → mostGlyphs ≤ length (c .glyphs) → ruleLimit ≤ length (c .substitutes) → (a : Answer) (list : Columns) → Reading (cutOut k r left) c a list
-      → (numberSaid a ≡ 0) × (getD (plan i) k none ≡ record { mask = getD (r .masks) k 0; lookup = lookupSaid a list })
+      → (readNumber a ≡ 0) × (getD (plan i) k none ≡ record { mask = getD (r .masks) k 0; lookup = lookupSaid a list })
   place-read c g t a list y =
       let es : List Entry = plan i in
       let place : length (take k es) ≡ k = length-take-le k es (omega (arith, place-inside)) in

@@ -21,20 +21,20 @@ use Rattle.drafts.specs.Entries.{Entry, sizeOf, allBytes}
 use Rattle.windows.specs.Windows.{signed, windows}
 use Rattle.fallback.specs.declared.FallbackPlan.{FallbackPlan}
 use Rattle.fallback.specs.Plan.{Inputs, unicode, plan}
-use Rattle.fallback.specs.Planned.{Outcome, outcome, nothing, made, lentRows, planRefusal, Planning}
+use Rattle.fallback.specs.Planned.{PlanOutcome, planOutcome, nothing, made, lentRows, planRefusal, Planning}
 use Rattle.fallback.specs.Switch.{fallbackOn}
 use Rattle.assurance.specs.Planning.{Promised, Says, AcceptedPlans, AtMostSeven, total, PastTheAnswer, UnicodeFirst, WindowsSecond, EmptyOtherwise, SwitchedOn}
 use Rattle.assurance.proofs.OriginLaws.{plan-few}
 use Rattle.assurance.proofs.PlanLaws.{Passed, passed, total-lengths, length-padded}
 
-abbrev saidOf : FallbackPlan → List ℕ → Outcome
-saidOf r left = outcome (r .count) (r .masks) (r .lengths) left
+abbrev saidOf : FallbackPlan → List ℕ → PlanOutcome
+saidOf r left = planOutcome (r .count) (r .masks) (r .lengths) left
 
 -- an answer is known by what it says
 same-plan : (r u : FallbackPlan) (left other : List ℕ) → said (r .verdict) ≡ said (u .verdict) → saidOf r left ≡ saidOf u other → r ≡ u
 same-plan r u left other e f =
-    ap₂ (λ (v : Verdict) (n : ℕ). record { verdict = v; count = n; masks = r .masks; lengths = r .lengths }) (same-said (r .verdict) (u .verdict) e) (ap (λ (o : Outcome). o .count) f)
-    ∙ ap₂ (λ (m l : List ℕ). record { verdict = u .verdict; count = u .count; masks = m; lengths = l }) (ap (λ (o : Outcome). o .masks) f) (ap (λ (o : Outcome). o .lengths) f)
+    ap₂ (λ (v : Verdict) (n : ℕ). record { verdict = v; count = n; masks = r .masks; lengths = r .lengths }) (same-said (r .verdict) (u .verdict) e) (ap (λ (o : PlanOutcome). o .count) f)
+    ∙ ap₂ (λ (m l : List ℕ). record { verdict = u .verdict; count = u .count; masks = m; lengths = l }) (ap (λ (o : PlanOutcome). o .masks) f) (ap (λ (o : PlanOutcome). o .lengths) f)
 
 pub promised : Promised
 unfolding planRefusal
@@ -43,18 +43,18 @@ promised =
     (record {
       says = λ i area r left x. x;
       rising = λ i area. refl;
-      fixed = λ r u left other n o. (same-plan r u left other n o, ap (λ (x : Outcome). x .area) o);
-      idle = λ r area left o. (ap (λ (x : Outcome). x .area) o, (ap (λ (x : Outcome). x .count) o, ap (λ (x : Outcome). x .masks) o, ap (λ (x : Outcome). x .lengths) o));
+      fixed = λ r u left other n o. (same-plan r u left other n o, ap (λ (x : PlanOutcome). x .area) o);
+      idle = λ r area left o. (ap (λ (x : PlanOutcome). x .area) o, (ap (λ (x : PlanOutcome). x .count) o, ap (λ (x : PlanOutcome). x .masks) o, ap (λ (x : PlanOutcome). x .lengths) o));
     })
 
 -- ---- what the call leaves if it is refused, and if it is not
 says-made : (entries : List Entry) (area : List ℕ) (r : FallbackPlan) (left : List ℕ) → saidOf r left ≡ made entries area → Says entries r left
 says-made entries area r left e =
     record {
-      counted = ap (λ (o : Outcome). o .count) e;
-      masked = ap (λ (o : Outcome). o .masks) e;
-      measured = ap (λ (o : Outcome). o .lengths) e;
-      begins = ap (λ (o : Outcome). take (length (allBytes entries)) (o .area)) e ∙ take-at (allBytes entries) (drop (length (allBytes entries)) area) (length (allBytes entries)) refl;
+      counted = ap (λ (o : PlanOutcome). o .count) e;
+      masked = ap (λ (o : PlanOutcome). o .masks) e;
+      measured = ap (λ (o : PlanOutcome). o .lengths) e;
+      begins = ap (λ (o : PlanOutcome). take (length (allBytes entries)) (o .area)) e ∙ take-at (allBytes entries) (drop (length (allBytes entries)) area) (length (allBytes entries)) refl;
     }
 
 module _ (i : Inputs) (area : List ℕ) (r : FallbackPlan) (left : List ℕ) (x : Planning i area r left) where
@@ -74,7 +74,7 @@ module _ (i : Inputs) (area : List ℕ) (r : FallbackPlan) (left : List ℕ) (x 
   not-refused z = passed i (length area) (sym number-given ∙ z)
 
   pub area-left : said (r .verdict) ≡ 0 → left ≡ allBytes (plan i) ++ drop (length (allBytes (plan i))) area
-  area-left z = ap (λ (o : Outcome). o .area) (done z)
+  area-left z = ap (λ (o : PlanOutcome). o .area) (done z)
 
 pub accepted-plans : AcceptedPlans
 accepted-plans = plans
@@ -155,7 +155,7 @@ unfolding allBytes
 empty-otherwise i area r left x none s =
     let e : plan i ≡ [] = plan-empty i none s in
     let g : saidOf r left ≡ made [] area = as-it-was i area r left x e in
-    (number-given i area r left x ∙ refusal-empty i (length area) e, ap (λ (o : Outcome). o .area) g, says-made [] area r left g)
+    (number-given i area r left x ∙ refusal-empty i (length area) e, ap (λ (o : PlanOutcome). o .area) g, says-made [] area r left g)
 
 -- ---- whether there is to be a plan
 pub switched-on : SwitchedOn

@@ -17,7 +17,7 @@ use Rattle.fallback.specs.declared.FallbackPlan.{FallbackPlan}
 use Rattle.fallback.specs.Plan.{Ligatures, Inputs}
 use Rattle.fallback.specs.Planned.{Planning}
 use Rattle.reading.specs.declared.Answer.{Answer}
-use Rattle.reading.specs.Read.{Columns, numberSaid, Reading}
+use Rattle.reading.specs.Read.{Columns, readNumber, Reading}
 use Rattle.fidelity.specs.Reading.{lookupSaid}
 use Rattle.assurance.specs.Planning.{Says}
 use Rattle.assurance.specs.Lookups.{cutOut, mostGlyphs}
@@ -116,7 +116,7 @@ EveryPlaceHasRows =
     → (l : Lent) → List·Memᴰ l (sevenLists i) → Used (i .font) l
     → (k : ℕ) → k < r .count → (c : Columns) → mostGlyphs ≤ length (c .glyphs) → ruleLimit ≤ length (c .substitutes)
     → (a : Answer) (list : Columns) → Reading (cutOut k r left) c a list
-    → (numberSaid a ≡ 0)
+    → (readNumber a ≡ 0)
     × ((m : Lent) × List·Memᴰ m (sevenLists i) × Used (i .font) m × OfRows (i .font) m (record { mask = getD (r .masks) k 0; lookup = lookupSaid a list }))
 
 -- Where none of the seven is used, it answers what is planned for a Windows-1256 font if it is one, and else nothing.

@@ -13,7 +13,7 @@ use Rattle.fallback.specs.declared.FallbackPlan.{FallbackPlan}
 use Rattle.fallback.specs.Plan.{Inputs, plan}
 use Rattle.fallback.specs.Planned.{Planning}
 use Rattle.reading.specs.declared.Answer.{Answer}
-use Rattle.reading.specs.Read.{Columns, numberSaid, Reading}
+use Rattle.reading.specs.Read.{Columns, readNumber, Reading}
 use Rattle.fidelity.specs.Reading.{lookupSaid}
 use Rattle.assurance.specs.Origins.{Origin, origins, rulesOf, From, Made}
 use Rattle.assurance.specs.Planning.{total}
@@ -66,7 +66,7 @@ EveryLookupReadsBack =
     → (before : List Entry) (e : Entry) (behind : List Entry) → plan i ≡ before ++ (e ∷ behind)
     → (c : Columns) → length (e .lookup .glyphs) ≤ length (c .glyphs) → length (e .lookup .substitutes) ≤ length (c .substitutes)
     → (a : Answer) (list : Columns) → Reading (cutOut (length before) r left) c a list
-    → (numberSaid a ≡ 0) × (lookupSaid a list ≡ e .lookup) × (getD (r .masks) (length before) 0 ≡ e .mask)
+    → (readNumber a ≡ 0) × (lookupSaid a list ≡ e .lookup) × (getD (r .masks) (length before) 0 ≡ e .mask)
 
 -- 1,024 rules of three glyphs
 abbrev pub mostGlyphs : ℕ
@@ -78,4 +78,4 @@ EveryPlaceReads =
     (i : Inputs) (area : List ℕ) (r : FallbackPlan) (left : List ℕ) → Planning i area r left → said (r .verdict) ≡ 0
     → (k : ℕ) → k < r .count → (c : Columns) → mostGlyphs ≤ length (c .glyphs) → ruleLimit ≤ length (c .substitutes)
     → (a : Answer) (list : Columns) → Reading (cutOut k r left) c a list
-    → (numberSaid a ≡ 0) × ((o : Origin) × List·Memᴰ o (origins i) × From o (record { mask = getD (r .masks) k 0; lookup = lookupSaid a list }))
+    → (readNumber a ≡ 0) × ((o : Origin) × List·Memᴰ o (origins i) × From o (record { mask = getD (r .masks) k 0; lookup = lookupSaid a list }))

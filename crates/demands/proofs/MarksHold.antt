@@ -14,7 +14,7 @@ use Rattle.marks.specs.declared.Answer.the-variants.{Reordered, Refused}
 use Rattle.marks.specs.declared.Merged.{Merged}
 use Rattle.marks.specs.declared.Merged.the-variants.{Nothing, One, Two}
 use Rattle.marks.specs.Passes.{reorderClasses, newClass}
-use Rattle.marks.specs.Reordered.{Request, Columns, Outcome, outcome, listed, part, newPart, reordered, rangesOf, reorderRefusal, numberSaid, rangesSaid, Reordering}
+use Rattle.marks.specs.Reordered.{ReorderRequest, Columns, ReorderOutcome, reorderOutcome, listed, part, newPart, reordered, rangesOf, reorderRefusal, numberSaid, rangesSaid, Reordering}
 use Rattle.marks.proofs.ReorderedLaws.{same-answer, Allowed, allowed, length-part, part-afterwards}
 use Rattle.marks.proofs.UtrLaws.{passes-utr53, passes-arranged, number-passes, plain-passes}
 use Rattle.demands.specs.Marks.{Promised, OnlyThePart, ByUtr53, Arranged, NothingLost, OthersStay, AtMostTwo, RangeOfEach, ChangesMerged}
@@ -22,36 +22,36 @@ use Rattle.demands.proofs.PartLaws.{outside-codes, outside-classes}
 use Rattle.demands.proofs.RangeLaws.{ranges-within, ranges-of-each, columns-outside}
 
 -- what the call leaves if it is refused, and if it is not
-abbrev old : Columns → Outcome
-old c = outcome [] c
+abbrev old : Columns → ReorderOutcome
+old c = reorderOutcome [] c
 
-abbrev new : Request → Columns → Outcome
-new q c = outcome (rangesOf q c) (reordered q c)
+abbrev new : ReorderRequest → Columns → ReorderOutcome
+new q c = reorderOutcome (rangesOf q c) (reordered q c)
 
 pub promised : Promised
 unfolding reorderRefusal
 promised =
-    kept {told = λ r d. outcome (rangesSaid r) d} {old = old} {new = new}
+    kept {told = λ r d. reorderOutcome (rangesSaid r) d} {old = old} {new = new}
     (record {
       says = λ q c r d x. x;
       rising = λ q c. refl;
-      fixed = λ r u d e n o. (same-answer r u n (ap (λ (x : Outcome). x .ranges) o), ap (λ (x : Outcome). x .columns) o);
-      idle = λ r c d o. (ap (λ (x : Outcome). x .columns) o, ap (λ (x : Outcome). x .ranges) o);
+      fixed = λ r u d e n o. (same-answer r u n (ap (λ (x : ReorderOutcome). x .ranges) o), ap (λ (x : ReorderOutcome). x .columns) o);
+      idle = λ r c d o. (ap (λ (x : ReorderOutcome). x .columns) o, ap (λ (x : ReorderOutcome). x .ranges) o);
     })
 
 -- an accepted request: the columns, the ranges and the part afterwards
-module _ (q : Request) (c : Columns) (r : Answer) (d : Columns) (x : Reordering q c r d) (z : numberSaid r ≡ 0) where
+module _ (q : ReorderRequest) (c : Columns) (r : Answer) (d : Columns) (x : Reordering q c r d) (z : numberSaid r ≡ 0) where
   accepted : Allowed q c
-  accepted = allowed q c (sym (left-number (reorderRefusal q c) (old c) (new q c) (numberSaid r) (outcome (rangesSaid r) d) x) ∙ z)
+  accepted = allowed q c (sym (left-number (reorderRefusal q c) (old c) (new q c) (numberSaid r) (reorderOutcome (rangesSaid r) d) x) ∙ z)
 
-  left : outcome (rangesSaid r) d ≡ new q c
-  left = left-accepted (reorderRefusal q c) (old c) (new q c) (numberSaid r) (outcome (rangesSaid r) d) x z
+  left : reorderOutcome (rangesSaid r) d ≡ new q c
+  left = left-accepted (reorderRefusal q c) (old c) (new q c) (numberSaid r) (reorderOutcome (rangesSaid r) d) x z
 
   columns-left : d ≡ reordered q c
-  columns-left = ap (λ (o : Outcome). o .columns) left
+  columns-left = ap (λ (o : ReorderOutcome). o .columns) left
 
   ranges-left : rangesSaid r ≡ rangesOf q c
-  ranges-left = ap (λ (o : Outcome). o .ranges) left
+  ranges-left = ap (λ (o : ReorderOutcome). o .ranges) left
 
   part-left : part q d ≡ newPart q c
   part-left = ap (part q) columns-left ∙ part-afterwards q c accepted

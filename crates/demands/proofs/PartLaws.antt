@@ -7,11 +7,11 @@ use lib.ListN.{length-map}
 use Rattle.laws.proofs.PartLaws.{take-map, drop-map}
 use Rattle.blocks.specs.Marks.{Mark}
 use Rattle.blocks.proofs.MarkLaws.{codes-marks, classes-marks}
-use Rattle.marks.specs.Reordered.{Request, Columns, line, newLine, reordered}
+use Rattle.marks.specs.Reordered.{ReorderRequest, Columns, line, newLine, reordered}
 use Rattle.marks.proofs.ReorderedLaws.{Allowed, before-newLine, behind-newLine, length-newLine}
 use Rattle.demands.specs.Marks.{Outside}
 
-module _ (q : Request) (c : Columns) (a : Allowed q c) where
+module _ (q : ReorderRequest) (c : Columns) (a : Allowed q c) where
   -- a column, of codes or of classes
   outside-column : (f : Mark → ℕ) → Outside q (map f (line c)) (map f (newLine q c))
   outside-column f =

@@ -15,7 +15,7 @@ use Rattle.laws.proofs.PartLaws.{three-parts, same-behind, same-before}
 use Rattle.blocks.specs.Marks.{Mark, mark}
 use Rattle.blocks.proofs.MarkLaws.{length-marks, codes-marks, classes-marks, column-at}
 use Rattle.marks.specs.Passes.{Span, Over, merged, skipped, block, others, smaller, moves, reorderClasses, newClass, passes, ranges, renumber, numbered}
-use Rattle.marks.specs.Reordered.{Request, Columns, line, part, newPart, newLine, reordered, rangesOf}
+use Rattle.marks.specs.Reordered.{ReorderRequest, Columns, line, part, newPart, newLine, reordered, rangesOf}
 use Rattle.marks.proofs.PassLaws.{pass-parts, length-passes}
 use Rattle.marks.proofs.ReorderedLaws.{Allowed}
 use Rattle.marks.specs.Utr53.{Least, Rising, ofClass, isModifier, lead, without}
@@ -32,7 +32,7 @@ length-parts k l =
 
 -- the ranges of passes over marks that lie within the part
 pub ranges-within :
-    (q : Request) (start : ℕ) (ks : List ℕ) (l : List Mark) → q .start ≤ start → start + length l ≤ q .end → AllWithin q (ranges start ks l)
+    (q : ReorderRequest) (start : ℕ) (ks : List ℕ) (l : List Mark) → q .start ≤ start → start + length l ≤ q .end → AllWithin q (ranges start ks l)
 unfolding ranges
 ranges-within q start [] l h e = tt
 ranges-within q start (k ∷ ks) l h e =
@@ -95,7 +95,7 @@ kept-outside new start (k ∷ ks) l p d h = go (block k l) (pass-parts k l) h (�
 
 -- so of the line
 pub line-outside :
-    (q : Request) (c : Columns) → Allowed q c → (p : ℕ) (d : Mark) → (Covered p (rangesOf q c) → ⊥) → getD (newLine q c) p d ≡ getD (line c) p d
+    (q : ReorderRequest) (c : Columns) → Allowed q c → (p : ℕ) (d : Mark) → (Covered p (rangesOf q c) → ⊥) → getD (newLine q c) p d ≡ getD (line c) p d
 line-outside q c a p d h =
     let T : List Mark = take (q .start) (line c) in
     let E : List Mark = drop (q .end) (line c) in
@@ -108,7 +108,7 @@ line-outside q c a p d h =
 
 -- and of its columns
 pub columns-outside :
-    (q : Request) (c : Columns) → Allowed q c → (p : ℕ) → (Covered p (rangesOf q c) → ⊥)
+    (q : ReorderRequest) (c : Columns) → Allowed q c → (p : ℕ) → (Covered p (rangesOf q c) → ⊥)
     → (getD (reordered q c .codes) p 0 ≡ getD (c .codes) p 0) × (getD (reordered q c .classes) p 0 ≡ getD (c .classes) p 0)
 columns-outside q c a p h =
     let column : (f : Mark → ℕ) → getD (map f (newLine q c)) p (f (mark 0 0)) ≡ getD (map f (line c)) p (f (mark 0 0)) =

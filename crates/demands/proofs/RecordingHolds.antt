@@ -13,7 +13,7 @@ use Rattle.refusals.proofs.PromiseLaws.{kept}
 use Rattle.letters.specs.Actions.{fixed, repeating}
 use Rattle.recording.specs.declared.Answer.{Answer}
 use Rattle.refusals.specs.Columns.{yes}
-use Rattle.recording.specs.Recorded.{Request, Outcome, outcome, some, tile, newAction, newActions, recorded, recordRefusal, numberSaid, recordedSaid, Recording}
+use Rattle.recording.specs.Recorded.{RecordRequest, RecordOutcome, recordOutcome, some, tile, newAction, newActions, recorded, recordRefusal, numberSaid, recordedSaid, Recording}
 use Rattle.recording.proofs.RecordedLaws.{same-answer, Allowed, allowed, recorded-masked, recorded-unmasked}
 use Rattle.recording.proofs.ActionLaws.{none-multiplied}
 use Rattle.demands.specs.Recording.{Promised, OnlyMultiplied, ByParity, SaysWhether, NothingHappens}
@@ -21,12 +21,12 @@ use Rattle.demands.specs.Recording.{Promised, OnlyMultiplied, ByParity, 
 pub promised : Promised
 unfolding recordRefusal
 promised =
-    kept {told = λ r left. outcome (recordedSaid r) left} {old = outcome false} {new = recorded}
+    kept {told = λ r left. recordOutcome (recordedSaid r) left} {old = recordOutcome false} {new = recorded}
     (record {
       says = λ q actions r left x. x;
       rising = λ q actions. refl;
-      fixed = λ r u left other n o. (same-answer r u n (ap (λ (x : Outcome). x .recorded) o), ap (λ (x : Outcome). x .actions) o);
-      idle = λ r actions left o. (ap (λ (x : Outcome). x .actions) o, ap (λ (x : Outcome). x .recorded) o);
+      fixed = λ r u left other n o. (same-answer r u n (ap (λ (x : RecordOutcome). x .recorded) o), ap (λ (x : RecordOutcome). x .actions) o);
+      idle = λ r actions left o. (ap (λ (x : RecordOutcome). x .actions) o, ap (λ (x : RecordOutcome). x .recorded) o);
     })
 
 -- ---- record by record
@@ -72,27 +72,27 @@ tile-even : (c : ℕ) → c % 2 ≡ 0 → tile c ≡ fixed
 tile-even c e = rw e
 
 -- ---- a call: what it leaves
-module _ (q : Request) (actions : List ℕ) (r : Answer) (left : List ℕ) (x : Recording q actions r left) where
-  abbrev old : Outcome
-  old = outcome false actions
+module _ (q : RecordRequest) (actions : List ℕ) (r : Answer) (left : List ℕ) (x : Recording q actions r left) where
+  abbrev old : RecordOutcome
+  old = recordOutcome false actions
 
   module _ (z : numberSaid r ≡ 0) where
     accepted : Allowed q actions
-    accepted = allowed q actions (sym (left-number (recordRefusal q actions) old (recorded q actions) (numberSaid r) (outcome (recordedSaid r) left) x) ∙ z)
+    accepted = allowed q actions (sym (left-number (recordRefusal q actions) old (recorded q actions) (numberSaid r) (recordOutcome (recordedSaid r) left) x) ∙ z)
 
-    done : outcome (recordedSaid r) left ≡ recorded q actions
-    done = left-accepted (recordRefusal q actions) old (recorded q actions) (numberSaid r) (outcome (recordedSaid r) left) x z
+    done : recordOutcome (recordedSaid r) left ≡ recorded q actions
+    done = left-accepted (recordRefusal q actions) old (recorded q actions) (numberSaid r) (recordOutcome (recordedSaid r) left) x z
 
     -- without a mask, and with one
     unmasked : q .mask ≡ 0 → (recordedSaid r ≡ false) × (left ≡ actions)
     unmasked e =
         let g = done ∙ sym (recorded-unmasked q actions e) in
-        (ap (λ (o : Outcome). o .recorded) g, ap (λ (o : Outcome). o .actions) g)
+        (ap (λ (o : RecordOutcome). o .recorded) g, ap (λ (o : RecordOutcome). o .actions) g)
 
     masked : (q .mask ≡ 0 → ⊥) → (recordedSaid r ≡ some (q .multiplied)) × (left ≡ newActions (q .multiplied) (q .components) actions)
     masked d =
         let g = done ∙ sym (recorded-masked q actions d refl refl) in
-        (ap (λ (o : Outcome). o .recorded) g, ap (λ (o : Outcome). o .actions) g)
+        (ap (λ (o : RecordOutcome). o .recorded) g, ap (λ (o : RecordOutcome). o .actions) g)
 
 -- a number is 0, or it is not
 by-zero : {A : Type 0} (n : ℕ) → (n ≡ 0 → A) → ((n ≡ 0 → ⊥) → A) → A

@@ -16,7 +16,7 @@ use Rattle.runs.specs.Stretched.{inOrder, partOf, work, stretched, recordsAdded
 use Rattle.runs.proofs.RecordLaws.{blank, getD-listed, length-line, length-work, spot-below, work-at}
 use Rattle.runs.proofs.StretchedLaws.{length-stretched}
 use Rattle.stretching.specs.declared.Answer.{Answer}
-use Rattle.stretching.specs.Stretching.{Request, Outcome, outcome, newLine, laidOver, stretchRefusal, numberSaid, lengthSaid, Stretching}
+use Rattle.stretching.specs.Stretching.{StretchRequest, StretchOutcome, stretchOutcome, newLine, laidOver, stretchRefusal, numberSaid, lengthSaid, Stretching}
 use Rattle.stretching.proofs.StretchingLaws.{same-answer, Allowed, allowed, number-given, accepted-left}
 use Rattle.demands.specs.Stretching.{Promised, PastTheAnswer, records, GivenAsItIs, CountAdded, OthersStay, CopiesKeep, FromTheLine, RunsHaveNoAdvance, TurnedRound}
 use Rattle.demands.proofs.WorkedLaws.{Every, every-at, every-more, Among, among-stretched, among-itself, plain-stretched, kept-stretched, Still, still-stretched, none-stretched, turned-stretched, records-glued}
@@ -24,12 +24,12 @@ use Rattle.demands.proofs.WorkedLaws.{Every, every-at, every-more, Amon
 pub promised : Promised
 unfolding stretchRefusal
 promised =
-    promises.kept {told = λ r left. outcome (lengthSaid r) left} {old = outcome 0} {new = λ q output. outcome (length (newLine q)) (laidOver (newLine q) output)}
+    promises.kept {told = λ r left. stretchOutcome (lengthSaid r) left} {old = stretchOutcome 0} {new = λ q output. stretchOutcome (length (newLine q)) (laidOver (newLine q) output)}
     (record {
       says = λ q output r left x. x;
       rising = λ q output. refl;
-      fixed = λ r u left other n o. (same-answer r u n (ap (λ (x : Outcome). x .count) o), ap (λ (x : Outcome). x .output) o);
-      idle = λ r output left o. (ap (λ (x : Outcome). x .output) o, ap (λ (x : Outcome). x .count) o);
+      fixed = λ r u left other n o. (same-answer r u n (ap (λ (x : StretchOutcome). x .count) o), ap (λ (x : StretchOutcome). x .output) o);
+      idle = λ r output left o. (ap (λ (x : StretchOutcome). x .output) o, ap (λ (x : StretchOutcome). x .count) o);
     })
 
 -- ---- the output
@@ -37,7 +37,7 @@ promised =
 past-laid : {A : Type 0} (f : Record → A) (l : List Record) (old : List A) → length l ≤ length old → Past (length l) old (map f l ++ drop (length l) old)
 past-laid f l old h = past-front (length l) (map f l) old _ (length-map l f) h refl (length l) refl
 
-module _ (q : Request) (output : Columns) (r : Answer) (left : Columns) (x : Stretching q output r left) where
+module _ (q : StretchRequest) (output : Columns) (r : Answer) (left : Columns) (x : Stretching q output r left) where
   abbrev AllPast : ℕ → Columns → Type 0
   AllPast n c =
       Past n (output .glyphs) (c .glyphs)
@@ -88,7 +88,7 @@ past-the-answer q output r left x = go (numberSaid r) refl
     go (suc n) e = past-refused q output r left x (λ z. omega (arith, e, z))
 
 -- ---- an accepted request
-module _ (q : Request) where
+module _ (q : StretchRequest) where
   line-unrecorded : q .recorded ≡ false → newLine q ≡ lineOf (q .line)
   line-unrecorded e = rw e
 
@@ -136,7 +136,7 @@ copies-keep q output r left x z e =
     ∙ kept-stretched (q .rtl) (lineOf (q .line))
 
 -- a record of the output, as one of a list
-module _ (q : Request) (output : Columns) (r : Answer) (left : Columns) (x : Stretching q output r left) (z : numberSaid r ≡ 0) (i : ℕ) (h : i < lengthSaid r) where
+module _ (q : StretchRequest) (output : Columns) (r : Answer) (left : Columns) (x : Stretching q output r left) (z : numberSaid r ≡ 0) (i : ℕ) (h : i < lengthSaid r) where
   -- what holds of each record of the new line holds of it
   holds-at : (P : Record → Type 0) → Every P (newLine q) → P (recordAt left i)
   holds-at P e =
@@ -152,7 +152,7 @@ found-work rtl c t a =
     let j : a .0 < length (c .actions) = omega (arith, a .1, length-work rtl c) in
     (partOf rtl (length (c .actions)) (a .0) 1, spot-below rtl (length (c .actions)) (a .0) j, a .2 ∙ ap kept (work-at rtl c (a .0) j))
 
-all-found : (q : Request) → Every (Found (q .line)) (newLine q)
+all-found : (q : StretchRequest) → Every (Found (q .line)) (newLine q)
 unfolding work inOrder
 all-found q = go (q .recorded)
   where

@@ -15,7 +15,7 @@ use Rattle.lines.specs.Held.{Setting, Line, settingOf, lineOf}
 use Rattle.lines.specs.Joined.{joinAfter}
 use Rattle.replacing.specs.Replaced as replacing
 use Rattle.marks.specs.Passes.{Span, Over}
-use Rattle.marks.specs.Reordered.{Request, Columns, requestOf, columnsOf, outcome, reorderAfter}
+use Rattle.marks.specs.Reordered.{ReorderRequest, Columns, reorderRequest, columnsOf, reorderOutcome, reorderAfter}
 use Rattle.runs.specs.Records as line
 use Rattle.stretching.specs.Stretching as stretching
 use Rattle.layouts.specs.declared.Kind.the-variants.{Single}
@@ -27,17 +27,17 @@ use Rattle.layouts.specs.Written as writing
 pub data Example : Type 0 where
   Joins : (given : Setting) → (before after : Line) → Example
   Replaces : (given : Setting) → (asked : replacing.Request) → (before after : Line) → Example
-  Reorders : (asked : Request) → (before : Columns) → (ranges : List Span) → (after : Columns) → Example
-  Stretches : (asked : stretching.Request) → (before : line.Columns) → (count : ℕ) → (after : line.Columns) → Example
+  Reorders : (asked : ReorderRequest) → (before : Columns) → (ranges : List Span) → (after : Columns) → Example
+  Stretches : (asked : stretching.StretchRequest) → (before : line.Columns) → (count : ℕ) → (after : line.Columns) → Example
   Writes : (asked : Lookup) → (before : List ℕ) → (count : ℕ) → (after : List ℕ) → Example
 
 -- each is of the whole call, which accepts it
 abbrev pub Gives : Example → Type 0
 Gives (Joins given before after) = joinAfter given before ≡ After 0 after
 Gives (Replaces given asked before after) = replacing.replaceAfter given asked before ≡ After 0 after
-Gives (Reorders asked before ranges after) = reorderAfter asked before ≡ After 0 (outcome ranges after)
-Gives (Stretches asked before count after) = stretching.stretchAfter stretching.stretchedLimit asked before ≡ After 0 (stretching.outcome count after)
-Gives (Writes asked before count after) = writing.writeAfter asked before ≡ After 0 (writing.outcome count after)
+Gives (Reorders asked before ranges after) = reorderAfter asked before ≡ After 0 (reorderOutcome ranges after)
+Gives (Stretches asked before count after) = stretching.stretchAfter stretching.stretchedLimit asked before ≡ After 0 (stretching.stretchOutcome count after)
+Gives (Writes asked before count after) = writing.writeAfter asked before ≡ After 0 (writing.writeOutcome count after)
 
 abbrev pub Each : List Example → Type 0
 Each [] = Unit
@@ -91,13 +91,13 @@ examples =
     joins [] (D ∷ Alaph ∷ L ∷ []) [] (init ∷ fina ∷ isol ∷ []) (192 ∷ 130 ∷ 129 ∷ []) ∷
     -- codes 064E 0655 065F 0654, classes 30 220 220 230: 0655 0654 064E 065F; ranges 0 to 2, 1 to 4. The class numbers lent are 25 and 26
     Reorders
-    (requestOf 0 4 25 26)
+    (reorderRequest 0 4 25 26)
     (columnsOf (0x064E ∷ 0x0655 ∷ 0x065F ∷ 0x0654 ∷ []) (30 ∷ 220 ∷ 220 ∷ 230 ∷ []))
     (Over 0 2 ∷ Over 1 4 ∷ [])
     (columnsOf (0x0655 ∷ 0x0654 ∷ 0x064E ∷ 0x065F ∷ []) (25 ∷ 26 ∷ 30 ∷ 220 ∷ [])) ∷
     -- right to left, Lo advance 10, repeating tile 4: four records, offsets of the last three -10 -7 -4. `negsuc n` is -(n + 1); the output has one place more, and numbers of its own, of which the last stay
     Stretches
-    (stretching.requestOf true true
+    (stretching.stretchRequest true true
     (line.columns
     (1 ∷ 2 ∷ [])
     (pos 10 ∷ pos 4 ∷ [])
@@ -125,7 +125,7 @@ examples =
     (pos 0 ∷ negsuc 9 ∷ negsuc 6 ∷ negsuc 3 ∷ pos 99 ∷ [])) ∷
     -- tile 5: three records, offsets -5 0
     Stretches
-    (stretching.requestOf true true
+    (stretching.stretchRequest true true
     (line.columns
     (1 ∷ 2 ∷ [])
     (pos 10 ∷ pos 5 ∷ [])

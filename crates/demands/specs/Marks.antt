@@ -14,7 +14,7 @@ use Rattle.refusals.specs.Promises.{Kept}
 use Rattle.blocks.specs.Marks.{Mark, codesOf}
 use Rattle.marks.specs.declared.Answer.{Answer}
 use Rattle.marks.specs.Passes.{Span, Over}
-use Rattle.marks.specs.Reordered.{Request, Columns, part, reorderRows, numberSaid, rangesSaid, Reordering}
+use Rattle.marks.specs.Reordered.{ReorderRequest, Columns, part, reorderRows, numberSaid, rangesSaid, Reordering}
 use Rattle.marks.specs.Utr53.{Rising, isModifier, lead, utr53, arranged}
 
 -- What every call promises, of this one: one answer; a refusal alters nothing and has no range; the smallest number that applies is given.
@@ -23,7 +23,7 @@ Promised = Kept Reordering numberSaid reorderRows (λ r _. rangesSaid r ≡ [])
 
 -- ---- an accepted request: the rest of the line
 -- a column l has become m: before start and from end on it is as it was, and it has neither grown nor shrunk
-pub record Outside (q : Request) (l m : List ℕ) : Type 0 where
+pub record Outside (q : ReorderRequest) (l m : List ℕ) : Type 0 where
   pub before : take (q .start) m ≡ take (q .start) l
   pub behind : drop (q .end) m ≡ drop (q .end) l
   pub long : length m ≡ length l
@@ -31,20 +31,20 @@ pub record Outside (q : Request) (l m : List ℕ) : Type 0 where
 -- Outside the part nothing changes, in neither column.
 abbrev pub OnlyThePart : Type 0
 OnlyThePart =
-    (q : Request) (c : Columns) (r : Answer) (d : Columns) → Reordering q c r d → numberSaid r ≡ 0
+    (q : ReorderRequest) (c : Columns) (r : Answer) (d : Columns) → Reordering q c r d → numberSaid r ≡ 0
     → Outside q (c .codes) (d .codes) × Outside q (c .classes) (d .classes)
 
 -- ---- an accepted request: the part, where its classes do not fall
 -- Its codes are in the order that UTR 53's two steps for modifier marks give.
 abbrev pub ByUtr53 : Type 0
 ByUtr53 =
-    (q : Request) (c : Columns) (r : Answer) (d : Columns) → Reordering q c r d → numberSaid r ≡ 0
+    (q : ReorderRequest) (c : Columns) (r : Answer) (d : Columns) → Reordering q c r d → numberSaid r ≡ 0
     → Rising (part q c) → codesOf (part q d) ≡ codesOf (utr53 (part q c))
 
 -- It is the 220 block, the 230 block and the rest, the blocks with the lent class numbers.
 abbrev pub Arranged : Type 0
 Arranged =
-    (q : Request) (c : Columns) (r : Answer) (d : Columns) → Reordering q c r d → numberSaid r ≡ 0
+    (q : ReorderRequest) (c : Columns) (r : Answer) (d : Columns) → Reordering q c r d → numberSaid r ≡ 0
     → Rising (part q c) → part q d ≡ arranged (q .low) (q .high) (part q c)
 
 -- ---- an accepted request: the part, whatever its classes are
@@ -55,27 +55,27 @@ withCode code l = length (those (λ m. eqb (m .code) code) l)
 -- No code is lost or doubled: each stands there as often as before.
 abbrev pub NothingLost : Type 0
 NothingLost =
-    (q : Request) (c : Columns) (r : Answer) (d : Columns) → Reordering q c r d → numberSaid r ≡ 0
+    (q : ReorderRequest) (c : Columns) (r : Answer) (d : Columns) → Reordering q c r d → numberSaid r ≡ 0
     → (code : ℕ) → withCode code (part q d) ≡ withCode code (part q c)
 
 -- The marks that are no modifiers keep their order among themselves, and their classes.
 abbrev pub OthersStay : Type 0
 OthersStay =
-    (q : Request) (c : Columns) (r : Answer) (d : Columns) → Reordering q c r d → numberSaid r ≡ 0
+    (q : ReorderRequest) (c : Columns) (r : Answer) (d : Columns) → Reordering q c r d → numberSaid r ≡ 0
     → those (λ m. not (isModifier m)) (part q d) ≡ those (λ m. not (isModifier m)) (part q c)
 
 -- ---- the ranges
 -- a range has a place, and lies within the part
-abbrev pub Within : Request → Span → Type 0
+abbrev pub Within : ReorderRequest → Span → Type 0
 Within q (Over from to) = (q .start ≤ from) × (from < to) × (to ≤ q .end)
 
-abbrev pub AllWithin : Request → List Span → Type 0
+abbrev pub AllWithin : ReorderRequest → List Span → Type 0
 AllWithin q [] = Unit
 AllWithin q (s ∷ more) = Within q s × AllWithin q more
 
 -- The answer has at most two ranges, each within the part.
 abbrev pub AtMostTwo : Type 0
-AtMostTwo = (q : Request) (c : Columns) (r : Answer) (d : Columns) → Reordering q c r d → (length (rangesSaid r) ≤ 2) × AllWithin q (rangesSaid r)
+AtMostTwo = (q : ReorderRequest) (c : Columns) (r : Answer) (d : Columns) → Reordering q c r d → (length (rangesSaid r) ≤ 2) × AllWithin q (rangesSaid r)
 
 -- how many marks are of a class below c: where the sequence of that class begins, if classes do not fall
 abbrev pub beneath : ℕ → List Mark → ℕ
@@ -89,7 +89,7 @@ spanned now before (m ∷ ms) = Over now (before + length (m ∷ ms)) ∷ []
 -- Where the classes of the part do not fall, each block that is not empty has one range: from where it stands now to where it ended before.
 abbrev pub RangeOfEach : Type 0
 RangeOfEach =
-    (q : Request) (c : Columns) (r : Answer) (d : Columns) → Reordering q c r d → numberSaid r ≡ 0
+    (q : ReorderRequest) (c : Columns) (r : Answer) (d : Columns) → Reordering q c r d → numberSaid r ≡ 0
     → Rising (part q c)
     → rangesSaid r
     ≡ spanned (q .start) (q .start + beneath 220 (part q c)) (lead 220 (part q c))
@@ -103,5 +103,5 @@ Covered p (Over from to ∷ more) = ((from ≤ p) × (p < to)) ⊎ Covered p mor
 -- What changes lies in a range: a place that is in none keeps its code and its class.
 abbrev pub ChangesMerged : Type 0
 ChangesMerged =
-    (q : Request) (c : Columns) (r : Answer) (d : Columns) → Reordering q c r d
+    (q : ReorderRequest) (c : Columns) (r : Answer) (d : Columns) → Reordering q c r d
     → (p : ℕ) → (Covered p (rangesSaid r) → ⊥) → (getD (d .codes) p 0 ≡ getD (c .codes) p 0) × (getD (d .classes) p 0 ≡ getD (c .classes) p 0)

@@ -17,7 +17,7 @@ use Rattle.runs.specs.Records.{Record, Columns, recordAt, listed, lineOf, kept,
 use Rattle.runs.specs.Runs.{acts, isTile, isPlain, copiesOf}
 use Rattle.runs.specs.Stretched.{inOrder, work, stretched, recordsAdded}
 use Rattle.stretching.specs.declared.Answer.{Answer}
-use Rattle.stretching.specs.Stretching.{Request, stretchedLimit, stretchRows, numberSaid, lengthSaid, Stretching}
+use Rattle.stretching.specs.Stretching.{StretchRequest, stretchedLimit, stretchRows, numberSaid, lengthSaid, Stretching}
 
 -- What every call promises, of this one: one answer; a refusal alters nothing and answers a length of 0; the smallest number that applies is given.
 abbrev pub Promised : Type 0
@@ -27,7 +27,7 @@ Promised = Kept Stretching numberSaid (stretchRows stretchedLimit) (λ r _. leng
 -- Output past the answered length is untouched, in each column: all of it, where a request is refused.
 abbrev pub PastTheAnswer : Type 0
 PastTheAnswer =
-    (q : Request) (output : Columns) (r : Answer) (left : Columns) → Stretching q output r left
+    (q : StretchRequest) (output : Columns) (r : Answer) (left : Columns) → Stretching q output r left
     → Past (lengthSaid r) (output .glyphs) (left .glyphs)
     × Past (lengthSaid r) (output .widths) (left .widths)
     × Past (lengthSaid r) (output .categories) (left .categories)
@@ -44,21 +44,21 @@ records n c = listed (recordAt c) n
 -- A line of which nothing was recorded is given as it is; so is one that has no tile.
 abbrev pub GivenAsItIs : Type 0
 GivenAsItIs =
-    (q : Request) (output : Columns) (r : Answer) (left : Columns) → Stretching q output r left → numberSaid r ≡ 0
+    (q : StretchRequest) (output : Columns) (r : Answer) (left : Columns) → Stretching q output r left → numberSaid r ≡ 0
     → (q .recorded ≡ false) ⊎ (those isTile (lineOf (q .line)) ≡ [])
     → (lengthSaid r ≡ length (q .line .actions)) × (records (lengthSaid r) left ≡ lineOf (q .line))
 
 -- A line of which something was recorded grows by copies × tiles, summed over its runs, and by nothing else.
 abbrev pub CountAdded : Type 0
 CountAdded =
-    (q : Request) (output : Columns) (r : Answer) (left : Columns) → Stretching q output r left → numberSaid r ≡ 0
+    (q : StretchRequest) (output : Columns) (r : Answer) (left : Columns) → Stretching q output r left → numberSaid r ≡ 0
     → q .recorded ≡ true → lengthSaid r ≡ length (q .line .actions) + recordsAdded false (work (q .rtl) (q .line))
 
 -- ---- an accepted request: which records
 -- The records that are no tiles are those of the line, in their order, with all their numbers.
 abbrev pub OthersStay : Type 0
 OthersStay =
-    (q : Request) (output : Columns) (r : Answer) (left : Columns) → Stretching q output r left → numberSaid r ≡ 0
+    (q : StretchRequest) (output : Columns) (r : Answer) (left : Columns) → Stretching q output r left → numberSaid r ≡ 0
     → those isPlain (records (lengthSaid r) left) ≡ those isPlain (lineOf (q .line))
 
 -- how often a record stands in the output whose run is copied so often: a repeating tile once and for each copy, any other record once
@@ -76,19 +76,19 @@ repeated inside copies (r ∷ rs) =
 -- Glyph, width, category, ignorable and action are those of the line's records, in their order: each record once, and a repeating tile as often again as its run has copies.
 abbrev pub CopiesKeep : Type 0
 CopiesKeep =
-    (q : Request) (output : Columns) (r : Answer) (left : Columns) → Stretching q output r left → numberSaid r ≡ 0
+    (q : StretchRequest) (output : Columns) (r : Answer) (left : Columns) → Stretching q output r left → numberSaid r ≡ 0
     → q .recorded ≡ true → map kept (inOrder (q .rtl) (records (lengthSaid r) left)) ≡ repeated false 0 (work (q .rtl) (q .line))
 
 -- In particular, each record of the output has these five of some record of the line.
 abbrev pub FromTheLine : Type 0
 FromTheLine =
-    (q : Request) (output : Columns) (r : Answer) (left : Columns) → Stretching q output r left → numberSaid r ≡ 0
+    (q : StretchRequest) (output : Columns) (r : Answer) (left : Columns) → Stretching q output r left → numberSaid r ≡ 0
     → (i : ℕ) → i < lengthSaid r → (j : ℕ) × (j < length (q .line .actions)) × (kept (recordAt left i) ≡ kept (recordAt (q .line) j))
 
 -- Where something was recorded, each tile of the output has advance 0.
 abbrev pub RunsHaveNoAdvance : Type 0
 RunsHaveNoAdvance =
-    (q : Request) (output : Columns) (r : Answer) (left : Columns) → Stretching q output r left → numberSaid r ≡ 0
+    (q : StretchRequest) (output : Columns) (r : Answer) (left : Columns) → Stretching q output r left → numberSaid r ≡ 0
     → q .recorded ≡ true → (i : ℕ) → i < lengthSaid r → isTile (recordAt left i) ≡ true → recordAt left i .advance ≡ pos 0
 
 -- ---- the two directions

@@ -17,7 +17,7 @@ use Rattle.layouts.specs.declared.Kind.{Kind}
 use Rattle.layouts.specs.declared.Written.{Written}
 use Rattle.layouts.specs.Tables.{Rule}
 use Rattle.layouts.specs.Lookups.{Lookup, lookupOf, width, known, flat, ligatures, wordsOf}
-use Rattle.layouts.specs.Written.{Outcome, outcome, writeRefusal, numberSaid, lengthSaid, Writing}
+use Rattle.layouts.specs.Written.{WriteOutcome, writeOutcome, writeRefusal, writeNumber, lengthSaid, Writing}
 use Rattle.drafts.specs.declared.Draft.{Draft}
 use Rattle.drafts.specs.Entries.{Entry, entry, sizeOf, bytesOf, allBytes, ruleLimit, most}
 use Rattle.drafts.specs.Drafted.{begun, noted, Drafted, Reached, Fit, Added}
@@ -47,14 +47,14 @@ module _ (l : Lookup) (a : ℕ) (scratch : List ℕ) (h : a ≤ length scratch) 
     passed : writeRefusal l (length lent) ≡ 0
     passed = ap (writeRefusal l) length-lent ∙ free
 
-    all-written : outcome (lengthSaid r) part ≡ outcome (2 * length (wordsOf l)) (bytes (wordsOf l) ++ drop (2 * length (wordsOf l)) lent)
-    all-written = left-accepted (writeRefusal l (length lent)) _ _ (numberSaid r) _ w (left-number (writeRefusal l (length lent)) _ _ (numberSaid r) _ w ∙ passed)
+    all-written : writeOutcome (lengthSaid r) part ≡ writeOutcome (2 * length (wordsOf l)) (bytes (wordsOf l) ++ drop (2 * length (wordsOf l)) lent)
+    all-written = left-accepted (writeRefusal l (length lent)) _ _ (writeNumber r) _ w (left-number (writeRefusal l (length lent)) _ _ (writeNumber r) _ w ∙ passed)
 
     pub length-written : lengthSaid r ≡ length (bytes (wordsOf l))
-    length-written = ap (λ (o : Outcome). o .count) all-written ∙ sym (length-bytes (wordsOf l))
+    length-written = ap (λ (o : WriteOutcome). o .count) all-written ∙ sym (length-bytes (wordsOf l))
 
     part-written : part ≡ bytes (wordsOf l) ++ drop (2 * length (wordsOf l)) lent
-    part-written = ap (λ (o : Outcome). o .area) all-written
+    part-written = ap (λ (o : WriteOutcome). o .area) all-written
 
     -- its bytes stand behind those that were there
     pub behind-others : take (a + lengthSaid r) (putMid a (length scratch - a) scratch part) ≡ take a scratch ++ bytes (wordsOf l)

@@ -1,4 +1,4 @@
--- The call that makes a plan: `flatBy`, `even`, `short`, `lentRows`, `roomRow`, `planRows`, `planRefusal` when it is refused, and with which number; `Outcome`, `outcome`, `nothing`, `made` what is there afterwards; `refusedBy` the answer of a refusal; `Settled`, `Settles` the last step of it; `Passed` what is known where the tests are passed; `planAfter`, `Planning` what the call answers and leaves, of every input.
+-- The call that makes a plan: `flatBy`, `even`, `short`, `lentRows`, `roomRow`, `planRows`, `planRefusal` when it is refused, and with which number; `PlanOutcome`, `planOutcome`, `nothing`, `made` what is there afterwards; `refusedBy` the answer of a refusal; `Settled`, `Settles` the last step of it; `Passed` what is known where the tests are passed; `planAfter`, `Planning` what the call answers and leaves, of every input.
 -- Assumes nothing.
 use mathlib.Core.Path.{_≡_}
 use mathlib.Core.Bool.{Bool, not, _&&_}
@@ -58,33 +58,33 @@ unfoldable pub planRefusal : Inputs → ℕ → ℕ
 planRefusal i room = first (planRows i room)
 
 -- how many entries, their masks and byte lengths in seven places each, and the area afterwards
-pub record Outcome : Type 0 where
+pub record PlanOutcome : Type 0 where
   pub count : ℕ
   pub masks : List ℕ
   pub lengths : List ℕ
   pub area : List ℕ
 
-abbrev pub outcome : ℕ → List ℕ → List ℕ → List ℕ → Outcome
-outcome count masks lengths area = record { count = count; masks = masks; lengths = lengths; area = area }
+abbrev pub planOutcome : ℕ → List ℕ → List ℕ → List ℕ → PlanOutcome
+planOutcome count masks lengths area = record { count = count; masks = masks; lengths = lengths; area = area }
 
 -- "A refusal gives its number and zeros elsewhere"
-abbrev pub nothing : List ℕ → Outcome
-nothing area = outcome 0 seven seven area
+abbrev pub nothing : List ℕ → PlanOutcome
+nothing area = planOutcome 0 seven seven area
 
 -- "the lookups' bytes one after another from the start of the lent area"; "Output past the answer is untouched"
-abbrev pub made : List Entry → List ℕ → Outcome
-made entries area = outcome (length entries) (masksOf entries) (lengthsOf entries) (allBytes entries ++ drop (length (allBytes entries)) area)
+abbrev pub made : List Entry → List ℕ → PlanOutcome
+made entries area = planOutcome (length entries) (masksOf entries) (lengthsOf entries) (allBytes entries ++ drop (length (allBytes entries)) area)
 
 abbrev pub refusedBy : Verdict → FallbackPlan
 refusedBy verdict = record { verdict = verdict; count = 0; masks = seven; lengths = seven }
 
-abbrev pub planAfter : Inputs → List ℕ → Left Outcome
+abbrev pub planAfter : Inputs → List ℕ → Left PlanOutcome
 planAfter i area = leaves (planRefusal i (length area)) (nothing area) (made (plan i) area)
 
 -- entries put into the area, if they go in
 abbrev pub Settled : List Entry → List ℕ → FallbackPlan → List ℕ → Type 0
 Settled entries area r left =
-    After (said (r .verdict)) (outcome (r .count) (r .masks) (r .lengths) left)
+    After (said (r .verdict)) (planOutcome (r .count) (r .masks) (r .lengths) left)
     ≡ leaves (first (roomRow entries (length area))) (nothing area) (made entries area)
 
 -- those of a draft
@@ -98,4 +98,4 @@ pub record Passed (i : Inputs) (scratch : List ℕ) : Type 0 where
 
 -- the statement of the call: lent these inputs and an area, it may answer r and leave the area `left`
 abbrev pub Planning : Inputs → List ℕ → FallbackPlan → List ℕ → Type 0
-Planning i area r left = After (said (r .verdict)) (outcome (r .count) (r .masks) (r .lengths) left) ≡ planAfter i area
+Planning i area r left = After (said (r .verdict)) (planOutcome (r .count) (r .masks) (r .lengths) left) ≡ planAfter i area

@@ -27,21 +27,21 @@ use Rattle.layouts.specs.declared.Written.the-variants.{Bytes}
 use Rattle.layouts.specs.Tables.{sets, offsets, joined, ligatureOf, ligature}
 use Rattle.layouts.specs.Lookups.{Lookup, lookupOf, width, rules, wordsOf, firsts}
 use Rattle.layouts.specs.Written as write
-use Rattle.layouts.specs.Written.{outcome, writeRefusal, writeAfter, Writing}
+use Rattle.layouts.specs.Written.{writeOutcome, writeRefusal, writeAfter, Writing}
 use Rattle.layouts.proofs.WrittenLaws.{Allowed, none-given}
 use Rattle.scanning.specs.Scans.{Scan, fine, wrong, short}
 use Rattle.scanning.specs.Grammar.{reading}
 use Rattle.scanning.specs.Exact.{kindRead, asRead, Readable}
 use Rattle.scanning.proofs.ExactLaws.{bytes-accepted, bytes-written}
 use Rattle.reading.specs.declared.Answer.{Answer}
-use Rattle.reading.specs.Read.{Columns, Outcome, nothing, found, lacking, made, rowsOf, readRefusal, numberSaid, outcomeSaid, Reading}
+use Rattle.reading.specs.Read.{Columns, ReadOutcome, nothing, found, lacking, made, readRows, readRefusal, readNumber, outcomeSaid, Reading}
 use Rattle.fidelity.specs.Reading.{Promised, AreBytes, countSaid, glyphsSaid, PastTheAnswer, WriterGives, Accepts, lookupSaid, ReadsBack, WritesBack, NeverFall, EmptyAlike, EmptyReadsTwo}
 use Rattle.fidelity.proofs.WritingHolds as writing
 use Rattle.fidelity.proofs.SaidLaws.{list-said, same-answer, Said, said-found}
 
 -- what an answer says has the columns that were left
-same-list : (r : Answer) (left : Columns) (o : Outcome) → outcomeSaid r left ≡ o → left ≡ o .list
-same-list r left o e = sym (list-said r left) ∙ ap (λ (x : Outcome). x .list) e
+same-list : (r : Answer) (left : Columns) (o : ReadOutcome) → outcomeSaid r left ≡ o → left ≡ o .list
+same-list r left o e = sym (list-said r left) ∙ ap (λ (x : ReadOutcome). x .list) e
 
 pub promised : Promised
 unfolding readRefusal
@@ -56,27 +56,27 @@ promised =
 
 -- ---- what the call leaves if it is refused, and if it is not
 -- the bytes are a lookup's, and the columns hold its list
-record Found (b : List ℕ) (c : Columns) (l : Lookup) (o : Outcome) : Type 0 where
+record Found (b : List ℕ) (c : Columns) (l : Lookup) (o : ReadOutcome) : Type 0 where
   said : reading b ≡ fine l
   glyphs : length (l .glyphs) ≤ length (c .glyphs)
   substitutes : length (l .substitutes) ≤ length (c .substitutes)
   there : o ≡ found l c
 
 module _ (b : List ℕ) (c : Columns) (r : Answer) (left : Columns) (x : Reading b c r left) where
-  pub number-given : numberSaid r ≡ readRefusal (reading b) c
-  number-given = left-number (readRefusal (reading b) c) (nothing c) (made (reading b) c) (numberSaid r) (outcomeSaid r left) x
+  pub number-given : readNumber r ≡ readRefusal (reading b) c
+  number-given = left-number (readRefusal (reading b) c) (nothing c) (made (reading b) c) (readNumber r) (outcomeSaid r left) x
 
-  pub unaltered : (numberSaid r ≡ 0 → ⊥) → outcomeSaid r left ≡ nothing c
-  unaltered = left-stays (readRefusal (reading b) c) (nothing c) (made (reading b) c) (numberSaid r) (outcomeSaid r left) x
+  pub unaltered : (readNumber r ≡ 0 → ⊥) → outcomeSaid r left ≡ nothing c
+  unaltered = left-stays (readRefusal (reading b) c) (nothing c) (made (reading b) c) (readNumber r) (outcomeSaid r left) x
 
-  pub done : numberSaid r ≡ 0 → outcomeSaid r left ≡ made (reading b) c
-  done z = left-accepted (readRefusal (reading b) c) (nothing c) (made (reading b) c) (numberSaid r) (outcomeSaid r left) x z
+  pub done : readNumber r ≡ 0 → outcomeSaid r left ≡ made (reading b) c
+  done z = left-accepted (readRefusal (reading b) c) (nothing c) (made (reading b) c) (readNumber r) (outcomeSaid r left) x z
 
-  was-found : numberSaid r ≡ 0 → (l : Lookup) × Found b c l (outcomeSaid r left)
+  was-found : readNumber r ≡ 0 → (l : Lookup) × Found b c l (outcomeSaid r left)
   unfolding readRefusal
   was-found z = go (reading b) refl (sym number-given ∙ z) (done z)
     where
-      go : (s : Scan) → reading b ≡ s → first (rowsOf s c) ≡ 0 → outcomeSaid r left ≡ made s c → (l : Lookup) × Found b c l (outcomeSaid r left)
+      go : (s : Scan) → reading b ≡ s → first (readRows s c) ≡ 0 → outcomeSaid r left ≡ made s c → (l : Lookup) × Found b c l (outcomeSaid r left)
       go (fine l) e f o =
           let lacks = first-none 7 (lacking (fine l) c) [] f in
           let n = neither (ltb (length (c .glyphs)) (length (l .glyphs))) (ltb (length (c .substitutes)) (length (l .substitutes))) (lacks .0) in
@@ -95,7 +95,7 @@ module _ (l : Lookup) where
   front : (area : List ℕ) → take (2 * length (wordsOf l)) (bytes (wordsOf l) ++ drop (2 * length (wordsOf l)) area) ≡ bytes (wordsOf l)
   front area = take-at (bytes (wordsOf l)) (drop (2 * length (wordsOf l)) area) (2 * length (wordsOf l)) (length-bytes (wordsOf l))
 
-  module _ (area : List ℕ) (w : Written) (out : List ℕ) (x : Writing l area w out) (z : write.numberSaid w ≡ 0) where
+  module _ (area : List ℕ) (w : Written) (out : List ℕ) (x : Writing l area w out) (z : write.writeNumber w ≡ 0) where
     bytes-given : take (write.lengthSaid w) out ≡ bytes (wordsOf l)
     bytes-given = rw (writing.length-left l area w out x z, writing.area-left l area w out x z) (front area)
 
@@ -104,7 +104,7 @@ module _ (l : Lookup) where
 
   -- lent an area, it may answer so
   may-give : (area : List ℕ) → Allowed l (length area) → Writing l area (Bytes (2 * length (wordsOf l))) (bytes (wordsOf l) ++ drop (2 * length (wordsOf l)) area)
-  may-give area a = left-done (writeRefusal l (length area)) (outcome 0 area) _ 0 _ (sym (none-given l (length area) a)) refl refl
+  may-give area a = left-done (writeRefusal l (length area)) (writeOutcome 0 area) _ 0 _ (sym (none-given l (length area) a)) refl refl
 
 -- ---- which bytes are accepted
 -- the bytes of a readable lookup are what the writer gives, lent an area of their length
@@ -129,16 +129,16 @@ pub accepts : Accepts
 unfolding readRefusal
 accepts b h c r left x = (on, back)
   where
-    on : (numberSaid r ≡ 7 → ⊥) → (l : Lookup) × WriterGives b l
+    on : (readNumber r ≡ 7 → ⊥) → (l : Lookup) × WriterGives b l
     on d = go (reading b) refl (number-given b c r left x)
       where
-        go : (s : Scan) → reading b ≡ s → numberSaid r ≡ first (rowsOf s c) → (l : Lookup) × WriterGives b l
+        go : (s : Scan) → reading b ≡ s → readNumber r ≡ first (readRows s c) → (l : Lookup) × WriterGives b l
         go (wrong n) e f = absurd (d f)
         go short e f = absurd (d f)
         go (fine l) e f = let m = bytes-written b h l e in (l, gives-written b l (m .0) (m .1 .readable))
 
-    back : ((l : Lookup) × WriterGives b l) → numberSaid r ≡ 7 → ⊥
-    back (l, g) e = go (lacking (fine (asRead l)) c) (sym e ∙ number-given b c r left x ∙ ap (λ (s : Scan). first (rowsOf s c)) (given-read b l g))
+    back : ((l : Lookup) × WriterGives b l) → readNumber r ≡ 7 → ⊥
+    back (l, g) e = go (lacking (fine (asRead l)) c) (sym e ∙ number-given b c r left x ∙ ap (λ (s : Scan). first (readRows s c)) (given-read b l g))
       where
         go : (t : Bool) → _≡_ {A = ℕ} 7 (cond t 8 0) → ⊥
         go true f = omega arith
@@ -156,16 +156,16 @@ unfolding readRefusal
 reads-back l area w out x z up c glyphs substitutes r left y =
     let b : List ℕ = take (write.lengthSaid w) out in
     let s : reading b ≡ fine (asRead l) = given-accepted l area w out x z up in
-    let none : numberSaid r ≡ 0 =
+    let none : readNumber r ≡ 0 =
     number-given b c r left y
-    ∙ ap (λ (s : Scan). first (rowsOf s c)) s
+    ∙ ap (λ (s : Scan). first (readRows s c)) s
     ∙ rw (le-ltb (length (c .glyphs)) (length (l .glyphs)) glyphs, le-ltb (length (c .substitutes)) (length (l .substitutes)) substitutes)
     in
     let even = even-read (l .kind) (l .glyphs) (l .substitutes) (writing.accepted l area w out x z .even) in
     (none, said-found (asRead l) even c r left none (done b c r left y none ∙ ap (λ (s : Scan). made s c) s) .lookup)
 
 -- the lookup that an accepted answer says is the one whose bytes were read
-module _ (b : List ℕ) (h : AreBytes b) (c : Columns) (r : Answer) (left : Columns) (x : Reading b c r left) (z : numberSaid r ≡ 0) where
+module _ (b : List ℕ) (h : AreBytes b) (c : Columns) (r : Answer) (left : Columns) (x : Reading b c r left) (z : readNumber r ≡ 0) where
   abbrev said : Lookup
   said = was-found b c r left x z .0
 
@@ -200,10 +200,10 @@ module _ (b : List ℕ) (h : AreBytes b) (c : Columns) (r : Answer) (left : Colu
     size : length b ≡ 2 * length (wordsOf said)
     size = ap length (is-written .0) ∙ length-bytes (wordsOf said)
 
-    unrefused : write.numberSaid w ≡ 0
+    unrefused : write.writeNumber w ≡ 0
     unrefused = writing.number-given said area w out asked ∙ none-given said (length area) (allowed said (length area) (is-written .1) (omega (arith, size)))
 
-    back-again : (write.numberSaid w ≡ 0) × (write.lengthSaid w ≡ length b) × (take (length b) out ≡ b)
+    back-again : (write.writeNumber w ≡ 0) × (write.lengthSaid w ≡ length b) × (take (length b) out ≡ b)
     back-again =
         let n : write.lengthSaid w ≡ length b = writing.length-left said area w out asked unrefused ∙ sym size in
         (unrefused, n, ap (λ (k : ℕ). take k out) (sym n) ∙ bytes-given said area w out asked unrefused ∙ sym (is-written .0))
@@ -215,9 +215,9 @@ pub never-fall : NeverFall
 never-fall = never-falls
 
 pub past-the-answer : PastTheAnswer
-past-the-answer b h c r left x = go (numberSaid r) refl
+past-the-answer b h c r left x = go (readNumber r) refl
   where
-    go : (n : ℕ) → numberSaid r ≡ n → Past (glyphsSaid r) (c .glyphs) (left .glyphs) × Past (countSaid r) (c .substitutes) (left .substitutes)
+    go : (n : ℕ) → readNumber r ≡ n → Past (glyphsSaid r) (c .glyphs) (left .glyphs) × Past (countSaid r) (c .substitutes) (left .substitutes)
     go zero e = (past-glyphs b h c r left x e, past-substitutes b h c r left x e)
     go (suc n) e = rw (promised .refused-stays b c r left x (λ z. omega (arith, e, z)) .0) (past-same (glyphsSaid r) (c .glyphs), past-same (countSaid r) (c .substitutes))
 

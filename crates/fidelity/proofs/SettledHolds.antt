@@ -17,7 +17,7 @@ use Rattle.scanning.specs.Grammar.{reading}
 use Rattle.scanning.specs.Exact.{asRead}
 use Rattle.scanning.proofs.ExactLaws.{bytes-written}
 use Rattle.reading.specs.declared.Answer.{Answer}
-use Rattle.reading.specs.Read.{Columns, nothing, found, accepted, lacking, made, rowsOf, readRefusal, numberSaid, outcomeSaid, Reading}
+use Rattle.reading.specs.Read.{Columns, nothing, found, accepted, lacking, made, readRows, readRefusal, readNumber, outcomeSaid, Reading}
 use Rattle.fidelity.specs.Reading.{AreBytes}
 use Rattle.fidelity.specs.Settled as settled
 use Rattle.fidelity.specs.Settled.{Room, GivenFor, Settled, ByTheWriters, NoOther}
@@ -51,14 +51,14 @@ module _ (b : List ℕ) (h : AreBytes b) (c : Columns) (r : Answer) (left : Colu
   unfolding readRefusal
   on x = go (reading b) refl (number-given b c r left x) (done b c r left x)
     where
-      unread : numberSaid r ≡ 7 → ((l : Lookup) → reading b ≡ fine l → ⊥) → Settled b c r left
+      unread : readNumber r ≡ 7 → ((l : Lookup) → reading b ≡ fine l → ⊥) → Settled b c r left
       unread e never = settled.noLookup (λ l g. never (asRead l) (given-read b l g)) e (unaltered b c r left x (λ z. omega (arith, e, z)))
 
-      room : (l : Lookup) → reading b ≡ fine l → (t : Bool) → lacking (fine l) c ≡ t → numberSaid r ≡ cond t 8 0 → (numberSaid r ≡ 0 → outcomeSaid r left ≡ found l c) → Settled b c r left
+      room : (l : Lookup) → reading b ≡ fine l → (t : Bool) → lacking (fine l) c ≡ t → readNumber r ≡ cond t 8 0 → (readNumber r ≡ 0 → outcomeSaid r left ≡ found l c) → Settled b c r left
       room l e true k n o = settled.noRoom l (given l e) (λ q. false≢true (sym (room-not-lacking l c q) ∙ k)) n (unaltered b c r left x (λ z. omega (arith, n, z)))
       room l e false k n o = settled.read l (given l e) (room-there l c k) n (o n)
 
-      go : (s : Scan) → reading b ≡ s → numberSaid r ≡ first (rowsOf s c) → (numberSaid r ≡ 0 → outcomeSaid r left ≡ made s c) → Settled b c r left
+      go : (s : Scan) → reading b ≡ s → readNumber r ≡ first (readRows s c) → (readNumber r ≡ 0 → outcomeSaid r left ≡ made s c) → Settled b c r left
       go (fine l) e n o = room l e (lacking (fine l) c) refl n o
       go (wrong k) e n o = unread n (λ l f. false≢true (ap accepted (sym e ∙ f)))
       go short e n o = unread n (λ l f. false≢true (ap accepted (sym e ∙ f)))
@@ -69,7 +69,7 @@ module _ (b : List ℕ) (h : AreBytes b) (c : Columns) (r : Answer) (left : Colu
   back (settled.noRoom l g q n o) = rw (read-given l g, no-room-lacking l c q, n, o) refl
   back (settled.noLookup never n o) = go (reading b) refl
     where
-      go : (s : Scan) → reading b ≡ s → After (numberSaid r) (outcomeSaid r left) ≡ leaves (first (rowsOf s c)) (nothing c) (made s c)
+      go : (s : Scan) → reading b ≡ s → After (readNumber r) (outcomeSaid r left) ≡ leaves (first (readRows s c)) (nothing c) (made s c)
       go (fine l) e = absurd (never l (given l e .gives))
       go (wrong k) e = rw (n, o) refl
       go short e = rw (n, o) refl

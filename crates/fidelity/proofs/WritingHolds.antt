@@ -20,7 +20,7 @@ use Rattle.layouts.specs.declared.Kind.the-variants.{Single, Ligature}
 use Rattle.layouts.specs.declared.Written.{Written}
 use Rattle.layouts.specs.Tables.{Rule, first, leader, sets}
 use Rattle.layouts.specs.Lookups.{Lookup, lookupOf, width, known, rules, laidOut, wordsOf, firstsIn, fits}
-use Rattle.layouts.specs.Written.{Outcome, outcome, writeRefusal, numberSaid, lengthSaid, Writing}
+use Rattle.layouts.specs.Written.{WriteOutcome, writeOutcome, writeRefusal, writeNumber, lengthSaid, Writing}
 use Rattle.layouts.proofs.FitLaws.{fits-lent}
 use Rattle.layouts.proofs.SetLaws.{wide-rules}
 use Rattle.layouts.proofs.SizeLaws.{length-rules, size-single, size-ligature}
@@ -36,25 +36,25 @@ use Rattle.fidelity.proofs.BoundLaws.{one-set-fits, lone-rules-fit, one
 
 -- ---- what the call leaves if it is not refused
 module _ (l : Lookup) (area : List ℕ) where
-  abbrev new : Outcome
-  new = outcome (2 * length (wordsOf l)) (bytes (wordsOf l) ++ drop (2 * length (wordsOf l)) area)
+  abbrev new : WriteOutcome
+  new = writeOutcome (2 * length (wordsOf l)) (bytes (wordsOf l) ++ drop (2 * length (wordsOf l)) area)
 
   module _ (r : Written) (left : List ℕ) (x : Writing l area r left) where
-    pub number-given : numberSaid r ≡ writeRefusal l (length area)
-    number-given = left-number (writeRefusal l (length area)) (outcome 0 area) new (numberSaid r) (outcome (lengthSaid r) left) x
+    pub number-given : writeNumber r ≡ writeRefusal l (length area)
+    number-given = left-number (writeRefusal l (length area)) (writeOutcome 0 area) new (writeNumber r) (writeOutcome (lengthSaid r) left) x
 
-    module _ (z : numberSaid r ≡ 0) where
+    module _ (z : writeNumber r ≡ 0) where
       pub accepted : Allowed l (length area)
       accepted = allowed l (length area) (sym number-given ∙ z)
 
-      done : outcome (lengthSaid r) left ≡ new
-      done = left-accepted (writeRefusal l (length area)) (outcome 0 area) new (numberSaid r) (outcome (lengthSaid r) left) x z
+      done : writeOutcome (lengthSaid r) left ≡ new
+      done = left-accepted (writeRefusal l (length area)) (writeOutcome 0 area) new (writeNumber r) (writeOutcome (lengthSaid r) left) x z
 
       pub length-left : lengthSaid r ≡ 2 * length (wordsOf l)
-      length-left = ap (λ (o : Outcome). o .count) done
+      length-left = ap (λ (o : WriteOutcome). o .count) done
 
       pub area-left : left ≡ bytes (wordsOf l) ++ drop (2 * length (wordsOf l)) area
-      area-left = ap (λ (o : Outcome). o .area) done
+      area-left = ap (λ (o : WriteOutcome). o .area) done
 
       words-left : Stands left 0 (wordsOf l)
       words-left = rw area-left (stands-bytes (wordsOf l) (drop (2 * length (wordsOf l)) area))
@@ -65,18 +65,18 @@ module _ (l : Lookup) (area : List ℕ) where
 pub promised : Promised
 unfolding writeRefusal
 promised =
-    kept {told = λ r left. outcome (lengthSaid r) left} {old = outcome 0} {new = new}
+    kept {told = λ r left. writeOutcome (lengthSaid r) left} {old = writeOutcome 0} {new = new}
     (record {
       says = λ l area r left x. x;
       rising = λ l area. refl;
-      fixed = λ r u left other n o. (same-answer r u n (ap (λ (x : Outcome). x .count) o), ap (λ (x : Outcome). x .area) o);
-      idle = λ r area left o. (ap (λ (x : Outcome). x .area) o, ap (λ (x : Outcome). x .count) o);
+      fixed = λ r u left other n o. (same-answer r u n (ap (λ (x : WriteOutcome). x .count) o), ap (λ (x : WriteOutcome). x .area) o);
+      idle = λ r area left o. (ap (λ (x : WriteOutcome). x .area) o, ap (λ (x : WriteOutcome). x .count) o);
     })
 
 pub past-the-answer : PastTheAnswer
-past-the-answer l area r left x = go (numberSaid r) refl
+past-the-answer l area r left x = go (writeNumber r) refl
   where
-    go : (n : ℕ) → numberSaid r ≡ n → Past (lengthSaid r) area left
+    go : (n : ℕ) → writeNumber r ≡ n → Past (lengthSaid r) area left
     go zero e = past l area r left x e
     go (suc n) e = rw (promised .refused-stays l area r left x (λ z. omega (arith, e, z)) .0) (past-same (lengthSaid r) area)
 
@@ -113,14 +113,14 @@ offset-from l most even named fit area r left x = (on, back)
         go false s =
             omega (arith, e, none-given l room (record { even = even; in-range = named; small = w; enough = ltb-false room (2 * length (wordsOf l)) s }))
 
-    on : numberSaid r ≡ 5 → most < length (l .substitutes)
+    on : writeNumber r ≡ 5 → most < length (l .substitutes)
     on e = go (leb (length (l .substitutes)) most) refl
       where
         go : (t : Bool) → leb (length (l .substitutes)) most ≡ t → most < length (l .substitutes)
         go true s = absurd (written (fit ∙ s) (sym (number-given l area r left x) ∙ e))
         go false s = leb-false (length (l .substitutes)) most s
 
-    back : most < length (l .substitutes) → numberSaid r ≡ 5
+    back : most < length (l .substitutes) → writeNumber r ≡ 5
     back h = number-given l area r left x ∙ offset-given l room even named (fit ∙ lt-leb (length (l .substitutes)) most h)
 
 pub single-limit : SingleLimit

@@ -19,11 +19,11 @@ use Rattle.scanning.specs.Grammar.{reading}
 use Rattle.scanning.specs.Exact.{asRead}
 use Rattle.reading.specs.declared.Answer.{Answer}
 use Rattle.reading.specs.declared.Answer.the-variants.{Read, Refused}
-use Rattle.reading.specs.Read.{Columns, rowsOf, nothing, numberSaid, outcomeSaid, Reading}
+use Rattle.reading.specs.Read.{Columns, readRows, nothing, readNumber, outcomeSaid, Reading}
 
 -- What every call promises, of this one: one answer; a refusal alters nothing and answers zeros; the smallest number that applies is given.
 abbrev pub Promised : Type 0
-Promised = Kept Reading numberSaid (λ b. rowsOf (reading b)) (λ r left. outcomeSaid r left ≡ nothing left)
+Promised = Kept Reading readNumber (λ b. readRows (reading b)) (λ r left. outcomeSaid r left ≡ nothing left)
 
 -- ---- the columns
 -- bytes, as the type of lent memory says
@@ -52,13 +52,13 @@ pub record WriterGives (b : List ℕ) (l : Lookup) : Type 0 where
   pub answer : Written
   pub left : List ℕ
   pub asked : Writing l area answer left
-  pub written : write.numberSaid answer ≡ 0
+  pub written : write.writeNumber answer ≡ 0
   pub there : take (write.lengthSaid answer) left ≡ b
   pub up : rising 0 (firsts l) ≡ true
 
 -- "Bytes are accepted exactly when they are what the writer gives for some list whose first glyphs do not fall": 7 is not given exactly when there is such a list.
 abbrev pub Accepts : Type 0
-Accepts = (b : List ℕ) → AreBytes b → (c : Columns) (r : Answer) (left : Columns) → Reading b c r left → (numberSaid r ≡ 7 → ⊥) ↔ ((l : Lookup) × WriterGives b l)
+Accepts = (b : List ℕ) → AreBytes b → (c : Columns) (r : Answer) (left : Columns) → Reading b c r left → (readNumber r ≡ 7 → ⊥) ↔ ((l : Lookup) × WriterGives b l)
 
 -- ---- both ways round
 -- the lookup that an answer says, its list at the start of the columns; a refusal says an empty one
@@ -69,22 +69,22 @@ lookupSaid (Refused k) c = lookupOf 0 Single [] []
 -- Written and then read, a lookup whose first glyphs do not fall is as it was: flags, kind and list, but for the component number of an empty list, which is 2 (`asRead`).
 abbrev pub ReadsBack : Type 0
 ReadsBack =
-    (l : Lookup) (area : List ℕ) (w : Written) (out : List ℕ) → Writing l area w out → write.numberSaid w ≡ 0 → rising 0 (firsts l) ≡ true
+    (l : Lookup) (area : List ℕ) (w : Written) (out : List ℕ) → Writing l area w out → write.writeNumber w ≡ 0 → rising 0 (firsts l) ≡ true
     → (c : Columns) → length (l .glyphs) ≤ length (c .glyphs) → length (l .substitutes) ≤ length (c .substitutes)
     → (r : Answer) (left : Columns) → Reading (take (write.lengthSaid w) out) c r left
-    → (numberSaid r ≡ 0) × (lookupSaid r left ≡ asRead l)
+    → (readNumber r ≡ 0) × (lookupSaid r left ≡ asRead l)
 
 -- Read and then written, in an area of their length or more, bytes are as they were.
 abbrev pub WritesBack : Type 0
 WritesBack =
-    (b : List ℕ) → AreBytes b → (c : Columns) (r : Answer) (left : Columns) → Reading b c r left → numberSaid r ≡ 0
+    (b : List ℕ) → AreBytes b → (c : Columns) (r : Answer) (left : Columns) → Reading b c r left → readNumber r ≡ 0
     → (area : List ℕ) → length b ≤ length area
     → (w : Written) (out : List ℕ) → Writing (lookupSaid r left) area w out
-    → (write.numberSaid w ≡ 0) × (write.lengthSaid w ≡ length b) × (take (length b) out ≡ b)
+    → (write.writeNumber w ≡ 0) × (write.lengthSaid w ≡ length b) × (take (length b) out ≡ b)
 
 -- The first glyphs of what is read do not fall.
 abbrev pub NeverFall : Type 0
-NeverFall = (b : List ℕ) → AreBytes b → (c : Columns) (r : Answer) (left : Columns) → Reading b c r left → numberSaid r ≡ 0 → rising 0 (firsts (lookupSaid r left)) ≡ true
+NeverFall = (b : List ℕ) → AreBytes b → (c : Columns) (r : Answer) (left : Columns) → Reading b c r left → readNumber r ≡ 0 → rising 0 (firsts (lookupSaid r left)) ≡ true
 
 -- ---- an empty list of ligatures
 -- "An empty ligature list has the same bytes for both component numbers"
@@ -96,6 +96,6 @@ EmptyAlike =
 -- "and reads with 2"
 abbrev pub EmptyReadsTwo : Type 0
 EmptyReadsTwo =
-    (flags n : ℕ) (area : List ℕ) (w : Written) (out : List ℕ) → Writing (lookupOf flags (Ligature n) [] []) area w out → write.numberSaid w ≡ 0
+    (flags n : ℕ) (area : List ℕ) (w : Written) (out : List ℕ) → Writing (lookupOf flags (Ligature n) [] []) area w out → write.writeNumber w ≡ 0
     → (c : Columns) (r : Answer) (left : Columns) → Reading (take (write.lengthSaid w) out) c r left
-    → (numberSaid r ≡ 0) × (lookupSaid r left ≡ lookupOf flags (Ligature 2) [] [])
+    → (readNumber r ≡ 0) × (lookupSaid r left ≡ lookupOf flags (Ligature 2) [] [])

@@ -8,7 +8,7 @@ use lib.ListN.{length}
 use Rattle.layouts.specs.Lookups.{Lookup}
 use Rattle.scanning.specs.Exact.{asRead}
 use Rattle.reading.specs.declared.Answer.{Answer}
-use Rattle.reading.specs.Read.{Columns, nothing, found, numberSaid, outcomeSaid, Reading}
+use Rattle.reading.specs.Read.{Columns, nothing, found, readNumber, outcomeSaid, Reading}
 use Rattle.fidelity.specs.Reading.{AreBytes, WriterGives}
 
 -- each column has a place for all that goes into it: it is not "shorter than the answer"
@@ -24,11 +24,11 @@ pub record GivenFor (b : List ℕ) (l : Lookup) : Type 0 where
 -- lent the bytes b and the columns c, the call may answer r and leave the columns `left`:
 pub data Settled (b : List ℕ) (c : Columns) (r : Answer) (left : Columns) : Type 0 where
   -- the lookup that the bytes are, its list at the start of the columns, which hold it
-  read : (l : Lookup) → GivenFor b l → Room l c → numberSaid r ≡ 0 → outcomeSaid r left ≡ found l c → Settled b c r left
+  read : (l : Lookup) → GivenFor b l → Room l c → readNumber r ≡ 0 → outcomeSaid r left ≡ found l c → Settled b c r left
   -- 8 where they do not hold it: zeros, and the columns as they were
-  noRoom : (l : Lookup) → GivenFor b l → (Room l c → ⊥) → numberSaid r ≡ 8 → outcomeSaid r left ≡ nothing c → Settled b c r left
+  noRoom : (l : Lookup) → GivenFor b l → (Room l c → ⊥) → readNumber r ≡ 8 → outcomeSaid r left ≡ nothing c → Settled b c r left
   -- 7 where the bytes are none that the writer gives for any such list: likewise
-  noLookup : ((l : Lookup) → WriterGives b l → ⊥) → numberSaid r ≡ 7 → outcomeSaid r left ≡ nothing c → Settled b c r left
+  noLookup : ((l : Lookup) → WriterGives b l → ⊥) → readNumber r ≡ 7 → outcomeSaid r left ≡ nothing c → Settled b c r left
 
 -- The call's statement allows just these answers.
 abbrev pub ByTheWriters : Type 0

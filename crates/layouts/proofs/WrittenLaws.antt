@@ -24,10 +24,10 @@ use Rattle.layouts.specs.declared.Kind.the-variants.{Ligature}
 use Rattle.layouts.specs.declared.Written.{Written}
 use Rattle.layouts.specs.declared.Written.the-variants.{Bytes}
 use Rattle.layouts.specs.Lookups.{Lookup, width, known, wordsOf, fits}
-use Rattle.layouts.specs.Written.{Outcome, outcome, writeRefusal, numberSaid, lengthSaid, writeAfter, Writing}
+use Rattle.layouts.specs.Written.{WriteOutcome, writeOutcome, writeRefusal, writeNumber, lengthSaid, writeAfter, Writing}
 
 -- ---- an answer is known by what it says
-pub same-answer : (r u : Written) → numberSaid r ≡ numberSaid u → lengthSaid r ≡ lengthSaid u → r ≡ u
+pub same-answer : (r u : Written) → writeNumber r ≡ writeNumber u → lengthSaid r ≡ lengthSaid u → r ≡ u
 same-answer (Bytes n) (Bytes m) e f = ap Bytes f
 same-answer (Bytes n) (Written.Refused k) e f = absurd (refused-number k (sym e))
 same-answer (Written.Refused k) (Bytes n) e f = absurd (refused-number k e)
@@ -40,7 +40,7 @@ same-answer (Written.Refused k) (Written.Refused l) e f =
 pub one-written : (l : Lookup) (area : List ℕ) (r u : Written) (left other : List ℕ) → Writing l area r left → Writing l area u other → (r ≡ u) × (left ≡ other)
 one-written l area r u left other p q =
     let g = alike _ _ _ _ (writeAfter l area) p q in
-    (same-answer r u (g .0) (ap (λ (x : Outcome). x .count) (g .1)), ap (λ (x : Outcome). x .area) (g .1))
+    (same-answer r u (g .0) (ap (λ (x : WriteOutcome). x .count) (g .1)), ap (λ (x : WriteOutcome). x .area) (g .1))
 
 -- ---- when a number is given
 -- "component number other than 2 or 3"
@@ -104,7 +104,7 @@ module _ (l : Lookup) (room : ℕ) where
 -- ---- what a call answers and leaves
 module _ (l : Lookup) (area : List ℕ) where
   pub written-refused : (k : Refusal) → writeRefusal l (length area) ≡ numberOf k → Writing l area (Written.Refused k) area
-  written-refused k e = left-refused (writeRefusal l (length area)) (outcome 0 area) _ (numberOf k) (sym e) (refused-number k)
+  written-refused k e = left-refused (writeRefusal l (length area)) (writeOutcome 0 area) _ (numberOf k) (sym e) (refused-number k)
 
   -- the words written from the start of the area are at its start, and the area past them is untouched
   pub written-all : Allowed l (length area) → {left : List ℕ} {n : ℕ} → Wrote area 0 (wordsOf l) left n [] → Writing l area (Bytes n) left
@@ -113,4 +113,4 @@ module _ (l : Lookup) (area : List ℕ) where
       let there : left ≡ bytes (wordsOf l) ++ drop (2 * length (wordsOf l)) area =
       ended w ∙ paste-front (bytes (wordsOf l)) area ∙ ap (λ (k : ℕ). bytes (wordsOf l) ++ drop k area) (length-bytes (wordsOf l))
       in
-      left-done (writeRefusal l (length area)) (outcome 0 area) _ 0 _ (sym (none-given l (length area) a)) refl (ap₂ outcome long there)
+      left-done (writeRefusal l (length area)) (writeOutcome 0 area) _ 0 _ (sym (none-given l (length area) a)) refl (ap₂ writeOutcome long there)

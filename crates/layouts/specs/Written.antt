@@ -1,4 +1,4 @@
--- The calls that write a lookup: `Outcome`, `outcome` what is there afterwards; `rowsOf`, `writeRefusal` when writing is refused, and with which number; `numberSaid`, `lengthSaid` what an answer says; `writeAfter`, `Writing` what a call answers and leaves, of every input.
+-- The calls that write a lookup: `WriteOutcome`, `writeOutcome` what is there afterwards; `writeRows`, `writeRefusal` when writing is refused, and with which number; `writeNumber`, `lengthSaid` what an answer says; `writeAfter`, `Writing` what a call answers and leaves, of every input.
 -- Assumes nothing.
 use mathlib.Core.Path.{_≡_}
 use mathlib.Core.Bool.{not}
@@ -15,16 +15,16 @@ use Rattle.layouts.specs.declared.Written.the-variants.{Bytes, Refused}
 use Rattle.layouts.specs.Lookups.{Lookup, width, known, wordsOf, fits}
 
 -- how many bytes were written, and the area afterwards
-pub record Outcome : Type 0 where
+pub record WriteOutcome : Type 0 where
   pub count : ℕ
   pub area : List ℕ
 
-abbrev pub outcome : ℕ → List ℕ → Outcome
-outcome count area = record { count = count; area = area }
+abbrev pub writeOutcome : ℕ → List ℕ → WriteOutcome
+writeOutcome count area = record { count = count; area = area }
 
 -- the rows of document 01's table that writing uses, for an area of so many bytes
-abbrev pub rowsOf : Lookup → ℕ → List Row
-rowsOf l room =
+abbrev pub writeRows : Lookup → ℕ → List Row
+writeRows l room =
     -- "flat components number N times the ligatures, N as given"
     Given 1 (not (eqb (length (l .glyphs)) (length (l .substitutes) * width (l .kind)))) ∷
     Given 3 (not (known (l .kind))) ∷
@@ -34,23 +34,23 @@ rowsOf l room =
     []
 
 unfoldable pub writeRefusal : Lookup → ℕ → ℕ
-writeRefusal l room = first (rowsOf l room)
+writeRefusal l room = first (writeRows l room)
 
 -- what an answer says; a refusal has its number, and 0 for the length
-abbrev pub numberSaid : Written → ℕ
-numberSaid (Bytes n) = 0
-numberSaid (Refused k) = numberOf k
+abbrev pub writeNumber : Written → ℕ
+writeNumber (Bytes n) = 0
+writeNumber (Refused k) = numberOf k
 
 abbrev pub lengthSaid : Written → ℕ
 lengthSaid (Bytes n) = n
 lengthSaid (Refused k) = 0
 
 -- a refusal leaves the area as it was; else the lookup's bytes are at its start, and the area past them is untouched
-abbrev pub writeAfter : Lookup → List ℕ → Left Outcome
+abbrev pub writeAfter : Lookup → List ℕ → Left WriteOutcome
 writeAfter l area =
-    leaves (writeRefusal l (length area)) (outcome 0 area)
-    (outcome (2 * length (wordsOf l)) (bytes (wordsOf l) ++ drop (2 * length (wordsOf l)) area))
+    leaves (writeRefusal l (length area)) (writeOutcome 0 area)
+    (writeOutcome (2 * length (wordsOf l)) (bytes (wordsOf l) ++ drop (2 * length (wordsOf l)) area))
 
 -- the statement of a writer: asked for the lookup l with an area lent, it may answer r and leave the area `left`
 abbrev pub Writing : Lookup → List ℕ → Written → List ℕ → Type 0
-Writing l area r left = After (numberSaid r) (outcome (lengthSaid r) left) ≡ writeAfter l area
+Writing l area r left = After (writeNumber r) (writeOutcome (lengthSaid r) left) ≡ writeAfter l area

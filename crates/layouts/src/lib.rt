@@ -1,6 +1,6 @@
 // Layouts: what kinds of lookup there are, and what writing one answers. The definitions of a lookup's bytes are in specs/.
 ghost use mathlib.Core.Path.{_≡_};
-ghost use Rattle.layouts.specs.Written.{numberSaid, lengthSaid};
+ghost use Rattle.layouts.specs.Written.{writeNumber, lengthSaid};
 use refusals::Refusal;
 
 // Whether a lookup is single, or ligature with its component number.
@@ -18,7 +18,7 @@ pub enum Written {
 impl Written {
     // Document 01's number, 0 for an accepted call.
     pub fn number(self) -> u8
-        ensures { λ r. ⌜ r ≡ numberSaid self ⌝ }
+        ensures { λ r. ⌜ r ≡ writeNumber self ⌝ }
     {
         match self {
             Written::Bytes(_) => 0,

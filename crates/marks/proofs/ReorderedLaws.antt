@@ -29,7 +29,7 @@ use Rattle.marks.specs.declared.Merged.the-variants.{Nothing, One, Two}
 use Rattle.marks.specs.declared.Answer.{Answer}
 use Rattle.marks.specs.declared.Answer.the-variants.{Reordered}
 use Rattle.marks.specs.Passes.{Span, Over, passes, reorderClasses, newClass}
-use Rattle.marks.specs.Reordered.{Request, Columns, columnsOf, numberSaid, rangesSaid, line, part, newPart, newLine, reordered, reorderRefusal}
+use Rattle.marks.specs.Reordered.{ReorderRequest, Columns, columnsOf, numberSaid, rangesSaid, line, part, newPart, newLine, reordered, reorderRefusal}
 use Rattle.marks.proofs.PassLaws.{length-passes}
 
 -- ---- an answer is known by what it says
@@ -68,13 +68,13 @@ same-answer r u n e =
 
 -- ---- a request that is not refused
 -- of the rows that reordering uses, none applies
-pub record Allowed (q : Request) (c : Columns) : Type 0 where
+pub record Allowed (q : ReorderRequest) (c : Columns) : Type 0 where
   pub even : length (c .codes) ≡ length (c .classes)
   pub few : length (c .codes) ≤ lineLimit
   pub order : q .start ≤ q .end
   pub inside : q .end ≤ length (c .codes)
 
-pub allowed : (q : Request) (c : Columns) → reorderRefusal q c ≡ 0 → Allowed q c
+pub allowed : (q : ReorderRequest) (c : Columns) → reorderRefusal q c ≡ 0 → Allowed q c
 unfolding reorderRefusal
 allowed q c z =
     let n = length (c .codes) in
@@ -93,19 +93,19 @@ allowed q c z =
 
 -- ---- the part, as it is lent
 pub part-lent :
-    (q : Request) (c : Columns)
+    (q : ReorderRequest) (c : Columns)
     → marks (take (q .end - q .start) (drop (q .start) (c .codes))) (take (q .end - q .start) (drop (q .start) (c .classes))) ≡ part q c
 part-lent q c = marks-mid (q .start) (q .end - q .start) (c .codes) (c .classes) ∙ slice-mid (q .start) (q .end) (line c)
 
 -- ---- the line afterwards
 -- what lies before the part, and behind it
-abbrev head : Request → Columns → List Mark
+abbrev head : ReorderRequest → Columns → List Mark
 head q c = take (q .start) (line c)
 
-abbrev tail : Request → Columns → List Mark
+abbrev tail : ReorderRequest → Columns → List Mark
 tail q c = drop (q .end) (line c)
 
-module _ (q : Request) (c : Columns) (a : Allowed q c) where
+module _ (q : ReorderRequest) (c : Columns) (a : Allowed q c) where
   length-head : length (head q c) ≡ q .start
   length-head = length-take-le (q .start) (line c) (omega (arith, length-marks (c .codes) (c .classes) (a .even), a .order, a .inside))
 

@@ -1,4 +1,4 @@
--- The call that reorders marks: `Request` what is asked for; `Columns` what is lent; `requestOf`, `columnsOf` these from a call's parameters, `columnsLent` as an `ensures` has them; `Outcome` what is there afterwards; `line`, `part`, `newPart`, `newLine`, `reordered`, `rangesOf` what reordering
+-- The call that reorders marks: `ReorderRequest` what is asked for; `Columns` what is lent; `reorderRequest`, `columnsOf` these from a call's parameters, `marksLent` as an `ensures` has them; `ReorderOutcome` what is there afterwards; `line`, `part`, `newPart`, `newLine`, `reordered`, `rangesOf` what reordering
 -- gives; `rowsOf`, `reorderRows`, `reorderRefusal` when it is refused, and with which number; `span`, `listed`, `numberSaid`, `rangesSaid` what an answer says; `reorderAfter`, `Reordering` what the call answers
 -- and leaves, of every input.
 -- Assumes nothing.
@@ -25,7 +25,7 @@ use Rattle.marks.specs.declared.Answer.{Answer}
 use Rattle.marks.specs.declared.Answer.the-variants.{Reordered, Refused}
 
 -- the part from start to end, and the two lent class numbers
-pub record Request : Type 0 where
+pub record ReorderRequest : Type 0 where
   pub start : ℕ
   pub end : ℕ
   pub low : ℕ
@@ -37,45 +37,45 @@ pub record Columns : Type 0 where
   pub classes : List ℕ
 
 -- the ranges that the call answers, and the columns afterwards
-pub record Outcome : Type 0 where
+pub record ReorderOutcome : Type 0 where
   pub ranges : List Span
   pub columns : Columns
 
-abbrev pub requestOf : ℕ → ℕ → ℕ → ℕ → Request
-requestOf start end low high = record { start = start; end = end; low = low; high = high }
+abbrev pub reorderRequest : ℕ → ℕ → ℕ → ℕ → ReorderRequest
+reorderRequest start end low high = record { start = start; end = end; low = low; high = high }
 
 abbrev pub columnsOf : List ℕ → List ℕ → Columns
 columnsOf codes classes = record { codes = codes; classes = classes }
 
 -- the columns lent, `.entry`, and those that come back, `.exit`
-abbrev pub columnsLent : Borrowed ℕ → Borrowed ℕ → Both Columns Columns
-columnsLent codes classes =
+abbrev pub marksLent : Borrowed ℕ → Borrowed ℕ → Both Columns Columns
+marksLent codes classes =
     record {
       entry = columnsOf (now (codes .entry)) (now (classes .entry));
       exit = columnsOf (now (codes .exit)) (now (classes .exit));
     }
 
-abbrev pub outcome : List Span → Columns → Outcome
-outcome ranges columns = record { ranges = ranges; columns = columns }
+abbrev pub reorderOutcome : List Span → Columns → ReorderOutcome
+reorderOutcome ranges columns = record { ranges = ranges; columns = columns }
 
 -- a line's marks; those from start to end, and these after the passes
 abbrev pub line : Columns → List Mark
 line c = marks (c .codes) (c .classes)
 
-abbrev pub part : Request → Columns → List Mark
+abbrev pub part : ReorderRequest → Columns → List Mark
 part q c = slice (q .start) (q .end) (line c)
 
-abbrev pub newPart : Request → Columns → List Mark
+abbrev pub newPart : ReorderRequest → Columns → List Mark
 newPart q c = passes (newClass (q .low) (q .high)) reorderClasses (part q c)
 
 -- the line with its part reordered: "The code and class columns move alike"
-abbrev pub newLine : Request → Columns → List Mark
+abbrev pub newLine : ReorderRequest → Columns → List Mark
 newLine q c = take (q .start) (line c) ++ (newPart q c ++ drop (q .end) (line c))
 
-abbrev pub reordered : Request → Columns → Columns
+abbrev pub reordered : ReorderRequest → Columns → Columns
 reordered q c = columnsOf (codesOf (newLine q c)) (classesOf (newLine q c))
 
-abbrev pub rangesOf : Request → Columns → List Span
+abbrev pub rangesOf : ReorderRequest → Columns → List Span
 rangesOf q c = ranges (q .start) reorderClasses (part q c)
 
 -- the rows of document 01's table that reordering uses, for a part from start to end of two columns of n and m records
@@ -88,10 +88,10 @@ rowsOf n m start end =
     []
 
 -- for a request on columns, and the number that it is refused with, 0 if it is not
-abbrev pub reorderRows : Request → Columns → List Row
+abbrev pub reorderRows : ReorderRequest → Columns → List Row
 reorderRows q c = rowsOf (length (c .codes)) (length (c .classes)) (q .start) (q .end)
 
-unfoldable pub reorderRefusal : Request → Columns → ℕ
+unfoldable pub reorderRefusal : ReorderRequest → Columns → ℕ
 reorderRefusal q c = first (reorderRows q c)
 
 -- what an answer says: "The answer lists the ranges .., at most two"; a refusal has its number and no range
@@ -112,9 +112,9 @@ rangesSaid (Reordered m) = listed m
 rangesSaid (Refused k) = []
 
 -- the call: a refusal gives its number, no range, and leaves the columns as they were
-abbrev pub reorderAfter : Request → Columns → Left Outcome
-reorderAfter q c = leaves (reorderRefusal q c) (outcome [] c) (outcome (rangesOf q c) (reordered q c))
+abbrev pub reorderAfter : ReorderRequest → Columns → Left ReorderOutcome
+reorderAfter q c = leaves (reorderRefusal q c) (reorderOutcome [] c) (reorderOutcome (rangesOf q c) (reordered q c))
 
 -- the statement of `reorder_modifier_combining_marks`: asked for q on the columns c, it may answer r and leave the columns d
-abbrev pub Reordering : Request → Columns → Answer → Columns → Type 0
-Reordering q c r d = After (numberSaid r) (outcome (rangesSaid r) d) ≡ reorderAfter q c
+abbrev pub Reordering : ReorderRequest → Columns → Answer → Columns → Type 0
+Reordering q c r d = After (numberSaid r) (reorderOutcome (rangesSaid r) d) ≡ reorderAfter q c

@@ -10,7 +10,7 @@ ghost use Rattle.refusals.specs.Columns.{lineLimit};
 ghost use Rattle.blocks.specs.Marks.{mark};
 ghost use Rattle.marks.specs.Modifiers.{modifier};
 ghost use Rattle.marks.specs.Passes.{Over, reorderClasses, newClass, moves, passes, ranges, numbered};
-ghost use Rattle.marks.specs.Reordered.{requestOf, columnsLent, line, listed, rowsOf, numberSaid, rangesSaid, Reordering};
+ghost use Rattle.marks.specs.Reordered.{reorderRequest, marksLent, line, listed, rowsOf, numberSaid, rangesSaid, Reordering};
 use letters::Code;
 use refusals::Refusal;
 use refusals::Verdict;
@@ -104,9 +104,9 @@ fn moved(code: Code, own: u8, class: u8) -> bool
 fn number_block(codes: &[u32], classes: &mut [u8], i: usize, class: u8, new: u8) -> usize
     requires { ⌜ length (now codes) ≡ length (now classes) ⌝ }
     requires { ⌜ i ≤ length (now codes) ⌝ }
-    ensures ends { λ r. ⌜ r ≡ i + length (front (moves class) (drop i (line (columnsLent codes classes .entry)))) ⌝ }
+    ensures ends { λ r. ⌜ r ≡ i + length (front (moves class) (drop i (line (marksLent codes classes .entry)))) ⌝ }
     ensures renumbered { λ _.
-        let c = columnsLent codes classes in
+        let c = marksLent codes classes in
         let rest = drop i (line (c .entry)) in
         ⌜ line (c .exit) ≡ take i (line (c .entry)) ++ (numbered new (front (moves class) rest) ++ behind (moves class) rest) ⌝ }
 {
@@ -147,9 +147,9 @@ impl Merged {
 fn reorder(codes: &mut [u32], classes: &mut [u8], start: usize, low: u8, high: u8) -> Merged
     requires { ⌜ length (now codes) ≡ length (now classes) ⌝ }
     requires { ⌜ start + length (now codes) ≤ lineLimit ⌝ }
-    ensures merged { λ r. ⌜ listed r ≡ ranges start reorderClasses (line (columnsLent codes classes .entry)) ⌝ }
+    ensures merged { λ r. ⌜ listed r ≡ ranges start reorderClasses (line (marksLent codes classes .entry)) ⌝ }
     ensures moved { λ _.
-        let c = columnsLent codes classes in
+        let c = marksLent codes classes in
         ⌜ line (c .exit) ≡ passes (newClass low high) reorderClasses (line (c .entry)) ⌝ }
 {
     let end = codes.len();
@@ -210,8 +210,8 @@ pub fn reorder_modifier_combining_marks(
     high: u8,
 ) -> Answer
     ensures { λ r.
-        let c = columnsLent codes classes in
-        ⌜ Reordering (requestOf start end low high) (c .entry) r (c .exit) ⌝ }
+        let c = marksLent codes classes in
+        ⌜ Reordering (reorderRequest start end low high) (c .entry) r (c .exit) ⌝ }
 {
     let verdict = refused(codes.len(), classes.len(), start, end);
     match verdict {

@@ -1,4 +1,4 @@
--- What the call answers: bytes that are no lookup (`no-lookup`), columns too short for one (`no-room`), and a lookup read (`read-whole`); how many rules a lookup has, by the number of its bytes (`single-count`, `ligature-count`); so a lookup of each kind (`single-place`, `single-room`, `single-read`; `ligature-place`, `rules-count`, `parts-count`, `ligature-room`, `ligature-read`); what the bytes were recognized as (`held-none`, `held-single`, `held-ligature`).
+-- What the call answers: bytes that are no lookup (`no-lookup`), listOf too short for one (`no-room`), and a lookup read (`read-whole`); how many rules a lookup has, by the number of its bytes (`single-count`, `ligature-count`); so a lookup of each kind (`single-place`, `single-room`, `single-read`; `ligature-place`, `rules-count`, `parts-count`, `ligature-room`, `ligature-read`); what the bytes were recognized as (`held-none`, `held-single`, `held-ligature`).
 -- Assumes nothing.
 use mathlib.Core.Path.{_≡_, refl, subst, _∙_}
 use mathlib.Core.Bool.{Bool, true, false, _||_}
@@ -25,7 +25,7 @@ use Rattle.recognizing.specs.declared.Recognized.the-variants.{Nothing, As}
 use Rattle.recognizing.specs.Recognized.{countAt, rulesIn, lookupAt, endOf, Held, Recognizing}
 use Rattle.reading.specs.declared.Answer.{Answer}
 use Rattle.reading.specs.declared.Answer.the-variants.{Read, Refused}
-use Rattle.reading.specs.Read.{Columns, columns, found, readRefusal, numberSaid, outcomeSaid, Reading}
+use Rattle.reading.specs.Read.{Columns, listOf, found, readRefusal, readNumber, outcomeSaid, Reading}
 
 -- ---- what the call answers
 module _ (b : List ℕ) (c : Columns) where
@@ -45,7 +45,7 @@ module _ (b : List ℕ) (c : Columns) where
 
     pub read-whole :
         (ltb (length (c .glyphs)) (length (l .glyphs)) || ltb (length (c .substitutes)) (length (l .substitutes))) ≡ false
-        → (r : Answer) → numberSaid r ≡ 0 → (left : Columns) → outcomeSaid r left ≡ found l c → Reading b c r left
+        → (r : Answer) → readNumber r ≡ 0 → (left : Columns) → outcomeSaid r left ≡ found l c → Reading b c r left
     unfolding readRefusal
     read-whole h r accepted left e = rw (said, h, accepted, e)
 
@@ -83,20 +83,20 @@ module _ (b g s : List ℕ) (h : Held Single b) (n : ℕ) (count : n ≡ (length
   unfolding endOf
   single-place = omega (arith, n-is, h .within)
 
-  -- columns of n and n
+  -- listOf of n and n
   lengths : (t : Bool) → (ltb (length g) n || ltb (length s) n) ≡ t → (ltb (length g) (length (lookupAt Single b .glyphs)) || ltb (length s) (length (lookupAt Single b .substitutes))) ≡ t
   unfolding lookupAt
   lengths t e = rw (length-words b (18 + 2 * countAt b) (countAt b), length-words b 14 (countAt b), ← n-is) e
 
-  pub single-room : (ltb (length g) n || ltb (length s) n) ≡ true → Reading b (columns g s) (Refused NoRoom) (columns g s)
-  single-room e = no-room b (columns g s) (lookupAt Single b) (h .said) (lengths true e)
+  pub single-room : (ltb (length g) n || ltb (length s) n) ≡ true → Reading b (listOf g s) (Refused NoRoom) (listOf g s)
+  single-room e = no-room b (listOf g s) (lookupAt Single b) (h .said) (lengths true e)
 
   pub single-read :
       (ltb (length g) n || ltb (length s) n) ≡ false → (flags : ℕ) → flags ≡ wordAt b 2 → (g′ s′ : List ℕ) → g′ ≡ wordsAt b (18 + 2 * n) n ++ drop n g → s′ ≡ wordsAt b 14 n ++ drop n s
-      → Reading b (columns g s) (Read (record { flags = flags; len = n; kind = Single })) (columns g′ s′)
+      → Reading b (listOf g s) (Read (record { flags = flags; len = n; kind = Single })) (listOf g′ s′)
   unfolding lookupAt
   single-read e flags f g′ s′ p q =
-      read-whole b (columns g s) (lookupAt Single b) (h .said) (lengths false e) (Read (record { flags = flags; len = n; kind = Single })) refl (columns g′ s′)
+      read-whole b (listOf g s) (lookupAt Single b) (h .said) (lengths false e) (Read (record { flags = flags; len = n; kind = Single })) refl (listOf g′ s′)
       (rw (f, p, q, n-is, length-words b (18 + 2 * countAt b) (countAt b), length-words b 14 (countAt b)))
 
 -- ---- a ligature lookup
@@ -117,15 +117,15 @@ module _ (m : ℕ) (b g s : List ℕ) (h : Held (Ligature m) b) (low : 2 ≤ m) 
     unfolding lookupAt
     rooms t e = rw (parts-count, length-map, ← rules-count) e
 
-    pub ligature-room : (ltb (length g) (n * m) || ltb (length s) n) ≡ true → Reading b (columns g s) (Refused NoRoom) (columns g s)
-    ligature-room e = no-room b (columns g s) (lookupAt (Ligature m) b) (h .said) (rooms true e)
+    pub ligature-room : (ltb (length g) (n * m) || ltb (length s) n) ≡ true → Reading b (listOf g s) (Refused NoRoom) (listOf g s)
+    ligature-room e = no-room b (listOf g s) (lookupAt (Ligature m) b) (h .said) (rooms true e)
 
     pub ligature-read :
         (ltb (length g) (n * m) || ltb (length s) n) ≡ false → (flags : ℕ) → flags ≡ wordAt b 2 → (g′ s′ : List ℕ) → Filled (rulesIn m b) g 0 s 0 g′ s′
-        → Reading b (columns g s) (Read (record { flags = flags; len = n; kind = Ligature m })) (columns g′ s′)
+        → Reading b (listOf g s) (Read (record { flags = flags; len = n; kind = Ligature m })) (listOf g′ s′)
     unfolding lookupAt
     ligature-read e flags f g′ s′ d =
-        read-whole b (columns g s) (lookupAt (Ligature m) b) (h .said) (rooms false e) (Read (record { flags = flags; len = n; kind = Ligature m })) refl (columns g′ s′)
+        read-whole b (listOf g s) (lookupAt (Ligature m) b) (h .said) (rooms false e) (Read (record { flags = flags; len = n; kind = Ligature m })) refl (listOf g′ s′)
         (rw (f, d .parts, d .wholes, paste-front (flat (rulesIn m b)) g, paste-front (ligatures (rulesIn m b)) s, rules-count, length-map))
 
 -- ---- what was recognized

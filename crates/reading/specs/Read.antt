@@ -1,5 +1,5 @@
--- The call that reads a lookup back (document 01, "Reading back"): `Columns`, `columns` what is lent; `columnsLent` the same from a call's parameters, as an `ensures` has them; `Outcome` what is there afterwards; `typeOf`, `componentsOf` what a kind says; `nothing`, `found` what is there with no lookup read, and with one; `accepted`, `lacking`, `rowsOf`, `readRefusal` when reading is refused, and with which number;
--- `numberSaid`, `outcomeSaid` what an answer says; `readAfter`, `Reading` what the call answers and leaves, of every input.
+-- The call that reads a lookup back (document 01, "Reading back"): `Columns`, `listOf` what is lent; `listLent` the same from a call's parameters, as an `ensures` has them; `ReadOutcome` what is there afterwards; `typeOf`, `componentsOf` what a kind says; `nothing`, `found` what is there with no lookup read, and with one; `accepted`, `lacking`, `readRows`, `readRefusal` when reading is refused, and with which number;
+-- `readNumber`, `outcomeSaid` what an answer says; `readAfter`, `Reading` what the call answers and leaves, of every input.
 -- Assumes nothing.
 use mathlib.Core.Path.{_≡_}
 use mathlib.Core.Bool.{Bool, true, false, not, _||_}
@@ -21,24 +21,24 @@ use Rattle.scanning.specs.Grammar.{reading}
 use Rattle.reading.specs.declared.Answer.{Answer}
 use Rattle.reading.specs.declared.Answer.the-variants.{Read, Refused}
 
--- two columns for the list: glyphs, or flat components; substitutes, or ligatures
+-- two listOf for the list: glyphs, or flat components; substitutes, or ligatures
 pub record Columns : Type 0 where
   pub glyphs : List ℕ
   pub substitutes : List ℕ
 
-abbrev pub columns : List ℕ → List ℕ → Columns
-columns glyphs substitutes = record { glyphs = glyphs; substitutes = substitutes }
+abbrev pub listOf : List ℕ → List ℕ → Columns
+listOf glyphs substitutes = record { glyphs = glyphs; substitutes = substitutes }
 
--- the columns lent, `.entry`, and those that come back, `.exit`
-abbrev pub columnsLent : Borrowed ℕ → Borrowed ℕ → Both Columns Columns
-columnsLent glyphs substitutes =
+-- the listOf lent, `.entry`, and those that come back, `.exit`
+abbrev pub listLent : Borrowed ℕ → Borrowed ℕ → Both Columns Columns
+listLent glyphs substitutes =
     record {
-      entry = columns (now (glyphs .entry)) (now (substitutes .entry));
-      exit = columns (now (glyphs .exit)) (now (substitutes .exit));
+      entry = listOf (now (glyphs .entry)) (now (substitutes .entry));
+      exit = listOf (now (glyphs .exit)) (now (substitutes .exit));
     }
 
 -- "A lookup as read says its flags and whether it is single, or ligature with its component number": its type is OpenType's, 1 or 4, its component number 0 if it is single; and it says how many rules it has
-pub record Outcome : Type 0 where
+pub record ReadOutcome : Type 0 where
   pub type : ℕ
   pub components : ℕ
   pub flags : ℕ
@@ -53,19 +53,19 @@ abbrev pub componentsOf : Kind → ℕ
 componentsOf Single = 0
 componentsOf (Ligature n) = n
 
--- no lookup: zeros, and the columns as they are
-abbrev pub nothing : Columns → Outcome
+-- no lookup: zeros, and the listOf as they are
+abbrev pub nothing : Columns → ReadOutcome
 nothing c = record { type = 0; components = 0; flags = 0; count = 0; list = c }
 
--- a lookup, its list at the start of the columns: "Output past the answer is untouched"
-abbrev pub found : Lookup → Columns → Outcome
+-- a lookup, its list at the start of the listOf: "Output past the answer is untouched"
+abbrev pub found : Lookup → Columns → ReadOutcome
 found l c =
     record {
       type = typeOf (l .kind);
       components = componentsOf (l .kind);
       flags = l .flags;
       count = length (l .substitutes);
-      list = columns (l .glyphs ++ drop (length (l .glyphs)) (c .glyphs)) (l .substitutes ++ drop (length (l .substitutes)) (c .substitutes));
+      list = listOf (l .glyphs ++ drop (length (l .glyphs)) (c .glyphs)) (l .substitutes ++ drop (length (l .substitutes)) (c .substitutes));
     }
 
 -- "bytes that are no written lookup"
@@ -81,34 +81,34 @@ lacking (wrong left) c = false
 lacking short c = false
 
 -- the rows of document 01's table that reading uses
-abbrev pub rowsOf : Scan → Columns → List Row
-rowsOf s c =
+abbrev pub readRows : Scan → Columns → List Row
+readRows s c =
     Given 7 (not (accepted s)) ∷
     Given 8 (lacking s c) ∷
     []
 
 unfoldable pub readRefusal : Scan → Columns → ℕ
-readRefusal s c = first (rowsOf s c)
+readRefusal s c = first (readRows s c)
 
 -- what is there if the call is accepted
-abbrev pub made : Scan → Columns → Outcome
+abbrev pub made : Scan → Columns → ReadOutcome
 made (fine l) c = found l c
 made (wrong left) c = nothing c
 made short c = nothing c
 
 -- what an answer says; a refusal has its number, and zeros elsewhere
-abbrev pub numberSaid : Answer → ℕ
-numberSaid (Read l) = 0
-numberSaid (Refused k) = numberOf k
+abbrev pub readNumber : Answer → ℕ
+readNumber (Read l) = 0
+readNumber (Refused k) = numberOf k
 
-abbrev pub outcomeSaid : Answer → Columns → Outcome
+abbrev pub outcomeSaid : Answer → Columns → ReadOutcome
 outcomeSaid (Read l) c = record { type = typeOf (l .kind); components = componentsOf (l .kind); flags = l .flags; count = l .len; list = c }
 outcomeSaid (Refused k) c = nothing c
 
--- a refusal leaves the columns as they were
-abbrev pub readAfter : List ℕ → Columns → Left Outcome
+-- a refusal leaves the listOf as they were
+abbrev pub readAfter : List ℕ → Columns → Left ReadOutcome
 readAfter b c = leaves (readRefusal (reading b) c) (nothing c) (made (reading b) c)
 
--- the statement of `read_lookup`: lent the bytes b and two columns, it may answer r and leave the columns `left`
+-- the statement of `read_lookup`: lent the bytes b and two listOf, it may answer r and leave the listOf `left`
 abbrev pub Reading : List ℕ → Columns → Answer → Columns → Type 0
-Reading b c r left = After (numberSaid r) (outcomeSaid r left) ≡ readAfter b c
+Reading b c r left = After (readNumber r) (outcomeSaid r left) ≡ readAfter b c

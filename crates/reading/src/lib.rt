@@ -3,7 +3,7 @@ ghost use mathlib.Core.Path.{_≡_};
 ghost use Prim.Native.Nat.{_≤_};
 ghost use Rattle.layouts.specs.declared.Kind.the-variants.{Single, Ligature};
 ghost use Rattle.recognizing.specs.Recognized.{Held};
-ghost use Rattle.reading.specs.Read.{columnsLent, typeOf, componentsOf, numberSaid, Reading};
+ghost use Rattle.reading.specs.Read.{listLent, typeOf, componentsOf, readNumber, Reading};
 use layouts::Kind;
 use recognizing::Recognized;
 use refusals::Refusal;
@@ -24,7 +24,7 @@ pub enum Answer {
 impl Answer {
     // Document 01's number, 0 for an accepted call.
     pub fn number(self) -> u8
-        ensures { λ r. ⌜ r ≡ numberSaid self ⌝ }
+        ensures { λ r. ⌜ r ≡ readNumber self ⌝ }
     {
         match self {
             Answer::Read(_) => 0,
@@ -57,7 +57,7 @@ pub fn components_of(kind: Kind) -> u8
 fn read_single(bytes: &[u8], glyphs: &mut [u16], substitutes: &mut [u16]) -> Answer
     requires { ⌜ Held Single (now bytes) ⌝ }
     ensures { λ r.
-        let c = columnsLent glyphs substitutes in
+        let c = listLent glyphs substitutes in
         ⌜ Reading (now (bytes .entry)) (c .entry) r (c .exit) ⌝ }
 {
     let n = (bytes.len() - 18) / 4;
@@ -78,7 +78,7 @@ fn read_single(bytes: &[u8], glyphs: &mut [u16], substitutes: &mut [u16]) -> Ans
 fn read_ligature(n: u8, bytes: &[u8], components: &mut [u16], ligatures: &mut [u16]) -> Answer
     requires { ⌜ Held (Ligature n) (now bytes) × ((2 ≤ n) × (n ≤ 3)) ⌝ }
     ensures { λ r.
-        let c = columnsLent components ligatures in
+        let c = listLent components ligatures in
         ⌜ Reading (now (bytes .entry)) (c .entry) r (c .exit) ⌝ }
 {
     let width = n as usize;
@@ -99,7 +99,7 @@ fn read_ligature(n: u8, bytes: &[u8], components: &mut [u16], ligatures: &mut [u
 // Reads the lookup that the bytes are into two columns: its glyphs, or its components one rule behind the other, and its substitutes, or its ligatures.
 pub fn read_lookup(bytes: &[u8], glyphs: &mut [u16], substitutes: &mut [u16]) -> Answer
     ensures { λ r.
-        let c = columnsLent glyphs substitutes in
+        let c = listLent glyphs substitutes in
         ⌜ Reading (now (bytes .entry)) (c .entry) r (c .exit) ⌝ }
 {
     match recognizing::recognize(bytes) {

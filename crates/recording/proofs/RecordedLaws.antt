@@ -17,7 +17,7 @@ use Rattle.refusals.proofs.VerdictLaws.{same-said, refused-number}
 use Rattle.refusals.proofs.LeftLaws.{alike}
 use Rattle.recording.specs.declared.Answer.{Answer}
 use Rattle.recording.specs.declared.Answer.the-variants.{Recorded}
-use Rattle.recording.specs.Recorded.{Request, Outcome, outcome, some, newActions, recorded, recordRefusal, recordAfter, numberSaid, recordedSaid, Recording}
+use Rattle.recording.specs.Recorded.{RecordRequest, RecordOutcome, recordOutcome, some, newActions, recorded, recordRefusal, recordAfter, numberSaid, recordedSaid, Recording}
 
 -- ---- an answer is known by what it says
 pub same-answer : (r u : Answer) → numberSaid r ≡ numberSaid u → recordedSaid r ≡ recordedSaid u → r ≡ u
@@ -30,19 +30,19 @@ same-answer (Answer.Refused k) (Answer.Refused l) n e =
     ap Answer.Refused same
 
 -- any two answers that the statement allows are equal, and leave the same actions
-pub one-answer : (q : Request) (actions : List ℕ) (r u : Answer) (left other : List ℕ) → Recording q actions r left → Recording q actions u other → (r ≡ u) × (left ≡ other)
+pub one-answer : (q : RecordRequest) (actions : List ℕ) (r u : Answer) (left other : List ℕ) → Recording q actions r left → Recording q actions u other → (r ≡ u) × (left ≡ other)
 one-answer q actions r u left other p o =
     let g = alike _ _ _ _ (recordAfter q actions) p o in
-    (same-answer r u (g .0) (ap (λ (x : Outcome). x .recorded) (g .1)), ap (λ (x : Outcome). x .actions) (g .1))
+    (same-answer r u (g .0) (ap (λ (x : RecordOutcome). x .recorded) (g .1)), ap (λ (x : RecordOutcome). x .actions) (g .1))
 
 -- ---- a request that is not refused
 -- of the rows that recording uses, none applies
-pub record Allowed (q : Request) (actions : List ℕ) : Type 0 where
+pub record Allowed (q : RecordRequest) (actions : List ℕ) : Type 0 where
   pub even : length (q .multiplied) ≡ length (q .components)
   pub even-actions : length (q .multiplied) ≡ length actions
   pub few : length (q .multiplied) ≤ lineLimit
 
-pub allowed : (q : Request) (actions : List ℕ) → recordRefusal q actions ≡ 0 → Allowed q actions
+pub allowed : (q : RecordRequest) (actions : List ℕ) → recordRefusal q actions ≡ 0 → Allowed q actions
 unfolding recordRefusal
 allowed q actions z =
     let n = length (q .multiplied) in
@@ -57,14 +57,14 @@ allowed q actions z =
     }
 
 -- ---- by the mask
-module _ (q : Request) (actions : List ℕ) where
-  abbrev by-mask : Bool → Outcome
-  by-mask none = cond (not none) (outcome (some (q .multiplied)) (newActions (q .multiplied) (q .components) actions)) (outcome false actions)
+module _ (q : RecordRequest) (actions : List ℕ) where
+  abbrev by-mask : Bool → RecordOutcome
+  by-mask none = cond (not none) (recordOutcome (some (q .multiplied)) (newActions (q .multiplied) (q .components) actions)) (recordOutcome false actions)
 
-  pub recorded-unmasked : q .mask ≡ 0 → outcome false actions ≡ recorded q actions
+  pub recorded-unmasked : q .mask ≡ 0 → recordOutcome false actions ≡ recorded q actions
   recorded-unmasked z = sym (ap by-mask (eq-eqb (q .mask) 0 z))
 
   pub recorded-masked :
       (q .mask ≡ 0 → ⊥) → {any : Bool} {left : List ℕ} → any ≡ some (q .multiplied) → left ≡ newActions (q .multiplied) (q .components) actions
-      → outcome any left ≡ recorded q actions
-  recorded-masked d e f = ap₂ outcome e f ∙ sym (ap by-mask (ne-eqb (q .mask) 0 d))
+      → recordOutcome any left ≡ recorded q actions
+  recorded-masked d e f = ap₂ recordOutcome e f ∙ sym (ap by-mask (ne-eqb (q .mask) 0 d))

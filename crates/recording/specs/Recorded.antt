@@ -1,4 +1,4 @@
--- Recording `stch` (document 01, "Stretching"): `Request`, `requestOf` what is asked for; `Outcome`, `outcome` what is there afterwards; `some` that a yes-or-no column says yes; `tile`, `newAction`, `newActions` the
+-- Recording `stch` (document 01, "Stretching"): `RecordRequest`, `recordRequest` what is asked for; `RecordOutcome`, `recordOutcome` what is there afterwards; `some` that a yes-or-no column says yes; `tile`, `newAction`, `newActions` the
 -- action that a record gets; `recorded` what recording gives; `rowsOf`, `recordRows`, `recordRefusal` when it is refused, and with which number; `numberSaid`, `recordedSaid` what an answer says;
 -- `recordAfter`, `Recording` what the call answers and leaves, of every input.
 -- Assumes nothing.
@@ -17,21 +17,21 @@ use Rattle.recording.specs.declared.Answer.{Answer}
 use Rattle.recording.specs.declared.Answer.the-variants.{Recorded, Refused}
 
 -- the mask of `stch`, which records are multiplied, and their component numbers
-pub record Request : Type 0 where
+pub record RecordRequest : Type 0 where
   pub mask : ℕ
   pub multiplied : List ℕ
   pub components : List ℕ
 
 -- whether any was recorded, and the column of actions afterwards
-pub record Outcome : Type 0 where
+pub record RecordOutcome : Type 0 where
   pub recorded : Bool
   pub actions : List ℕ
 
-abbrev pub requestOf : ℕ → List ℕ → List ℕ → Request
-requestOf mask multiplied components = record { mask = mask; multiplied = multiplied; components = components }
+abbrev pub recordRequest : ℕ → List ℕ → List ℕ → RecordRequest
+recordRequest mask multiplied components = record { mask = mask; multiplied = multiplied; components = components }
 
-abbrev pub outcome : Bool → List ℕ → Outcome
-outcome recorded actions = record { recorded = recorded; actions = actions }
+abbrev pub recordOutcome : Bool → List ℕ → RecordOutcome
+recordOutcome recorded actions = record { recorded = recorded; actions = actions }
 
 -- any of a column says yes
 abbrev pub some : List ℕ → Bool
@@ -55,9 +55,9 @@ newActions (m ∷ multiplied) (c ∷ components) (a ∷ actions) = newAction m c
 
 -- "Without a `stch` mask, or without a multiplied record, nothing happens. Its answer says whether any was recorded": that nothing happens without
 -- a multiplied record needs no case of its own
-abbrev pub recorded : Request → List ℕ → Outcome
+abbrev pub recorded : RecordRequest → List ℕ → RecordOutcome
 recorded q actions =
-    cond (yes (q .mask)) (outcome (some (q .multiplied)) (newActions (q .multiplied) (q .components) actions)) (outcome false actions)
+    cond (yes (q .mask)) (recordOutcome (some (q .multiplied)) (newActions (q .multiplied) (q .components) actions)) (recordOutcome false actions)
 
 -- the rows of document 01's table that recording uses, for columns of n, m and k records
 abbrev pub rowsOf : ℕ → ℕ → ℕ → List Row
@@ -67,10 +67,10 @@ rowsOf n m k =
     []
 
 -- for a request on a column of actions, with or without a mask; and the number that it is refused with, 0 if it is not
-abbrev pub recordRows : Request → List ℕ → List Row
+abbrev pub recordRows : RecordRequest → List ℕ → List Row
 recordRows q actions = rowsOf (length (q .multiplied)) (length (q .components)) (length actions)
 
-unfoldable pub recordRefusal : Request → List ℕ → ℕ
+unfoldable pub recordRefusal : RecordRequest → List ℕ → ℕ
 recordRefusal q actions = first (recordRows q actions)
 
 -- what an answer says; a refusal says that nothing was recorded
@@ -83,9 +83,9 @@ recordedSaid (Recorded any) = any
 recordedSaid (Refused k) = false
 
 -- the call: a refusal gives its number, and leaves the actions as they were
-abbrev pub recordAfter : Request → List ℕ → Left Outcome
-recordAfter q actions = leaves (recordRefusal q actions) (outcome false actions) (recorded q actions)
+abbrev pub recordAfter : RecordRequest → List ℕ → Left RecordOutcome
+recordAfter q actions = leaves (recordRefusal q actions) (recordOutcome false actions) (recorded q actions)
 
 -- the statement of `record_stch`: asked for q on a column of actions, it may answer r and leave the column `left`
-abbrev pub Recording : Request → List ℕ → Answer → List ℕ → Type 0
-Recording q actions r left = After (numberSaid r) (outcome (recordedSaid r) left) ≡ recordAfter q actions
+abbrev pub Recording : RecordRequest → List ℕ → Answer → List ℕ → Type 0
+Recording q actions r left = After (numberSaid r) (recordOutcome (recordedSaid r) left) ≡ recordAfter q actions

@@ -3,7 +3,7 @@ ghost use mathlib.Core.Path.{_≡_};
 ghost use lib.ListN.{length};
 ghost use Rattle.laws.specs.Rows.{first};
 ghost use Rattle.refusals.specs.Numbers.{said};
-ghost use Rattle.recording.specs.Recorded.{newAction, newActions, some, rowsOf, requestOf, numberSaid, recordedSaid, Recording};
+ghost use Rattle.recording.specs.Recorded.{newAction, newActions, some, rowsOf, recordRequest, numberSaid, recordedSaid, Recording};
 use letters::Action;
 use refusals::Refusal;
 use refusals::Verdict;
@@ -81,7 +81,7 @@ fn refused(n: usize, m: usize, k: usize) -> Verdict
 // Records what `stch` has multiplied: a record with an odd component number is repeated, any other is fixed. Without a mask of `stch` nothing is recorded.
 pub fn record_stch(mask: u32, multiplied: &[u8], components: &[u8], actions: &mut [u8]) -> Answer
     ensures { λ r.
-        let q = requestOf mask (now (multiplied .entry)) (now (components .entry)) in
+        let q = recordRequest mask (now (multiplied .entry)) (now (components .entry)) in
         ⌜ Recording q (now (actions .entry)) r (now (actions .exit)) ⌝ }
 {
     let verdict = refused(multiplied.len(), components.len(), actions.len());

@@ -18,7 +18,7 @@ use Rattle.layouts.specs.declared.Kind.{Kind}
 use Rattle.layouts.specs.declared.Kind.the-variants.{Single, Ligature}
 use Rattle.layouts.specs.Tables.{Rule, first, sets, offsets, joined, single, ligatureOf, ligature}
 use Rattle.layouts.specs.Lookups.{Lookup, lookupOf, width, known, rules, laidOut, wordsOf, firstsIn, firsts, fits}
-use Rattle.layouts.specs.Written.{rowsOf, writeRefusal}
+use Rattle.layouts.specs.Written.{writeRows, writeRefusal}
 use Rattle.layouts.proofs.FitLaws.{fits-parts, fits-head, fits-lent}
 use Rattle.layouts.proofs.WrittenLaws.{two-or-three}
 use Rattle.scanning.specs.Scans.{Scan, fine, wrong, short, further}
@@ -173,9 +173,9 @@ unrefused l room r h = rw (eq-eqb (length (l .glyphs)) (length (l .substitutes) 
 readable : (l : Lookup) (room : ℕ) → writeRefusal l room ≡ 0 → rising 0 (firsts l) ≡ true → Readable l
 unfolding writeRefusal
 readable l room e up =
-    let a = first-none 0 (not (eqb (length (l .glyphs)) (length (l .substitutes) * width (l .kind)))) (drop 1 (rowsOf l room)) e in
-    let b = first-none 2 (not (known (l .kind))) (drop 2 (rowsOf l room)) (a .1) in
-    let c = first-none 4 (not (fits (wordsOf l))) (drop 3 (rowsOf l room)) (b .1) in
+    let a = first-none 0 (not (eqb (length (l .glyphs)) (length (l .substitutes) * width (l .kind)))) (drop 1 (writeRows l room)) e in
+    let b = first-none 2 (not (known (l .kind))) (drop 2 (writeRows l room)) (a .1) in
+    let c = first-none 4 (not (fits (wordsOf l))) (drop 3 (writeRows l room)) (b .1) in
     record {
       even = eqb-true (length (l .glyphs)) (length (l .substitutes) * width (l .kind)) (not-false _ (a .0));
       named = not-false _ (b .0);

@@ -20,14 +20,14 @@ use Rattle.runs.proofs.RecordLaws.{length-in-order, order-twice, length-line}
 use Rattle.laying.specs.Laid.{laid}
 use Rattle.copying.proofs.ColumnsLaws.{columns-same}
 use Rattle.laying.proofs.LaidLaws.{laid-on-whole}
-use Rattle.stretching.specs.Stretching.{Request, stretchedLimit, newLine, unequal, shorter, rowsOf, stretchRows, stretchRefusal, judged, laidOver}
+use Rattle.stretching.specs.Stretching.{StretchRequest, stretchedLimit, newLine, unequal, shorter, rowsOf, stretchRows, stretchRefusal, judged, laidOver}
 
 pub length-recorded : (rtl : Bool) (c : Columns) → length (stretched rtl (lineOf c)) ≡ length (worked rtl false (work rtl c))
 unfolding stretched work
 length-recorded rtl c = length-in-order rtl (worked rtl false (inOrder rtl (lineOf c)))
 
 -- ---- judging, by the tests
-module _ (cap : ℕ) (q : Request) (short : Bool) where
+module _ (cap : ℕ) (q : StretchRequest) (short : Bool) where
   refusing : (k : ℕ) → 0 < k → k ≡ first (rowsOf cap q short) → After k 0 ≡ judged cap q short
   refusing k h e = left-refused (first (rowsOf cap q short)) 0 (length (newLine q)) k e (λ z. omega arith)
 
@@ -55,7 +55,7 @@ module _ (cap : ℕ) (q : Request) (short : Bool) where
               left-done (first (rowsOf cap q short)) 0 (length (newLine q)) 0 (length (newLine q)) (rw (e, le-ltb lineLimit (length (q .line .actions)) h, s, le-ltb cap (length (newLine q)) o, t)) refl refl
 
 -- what an answer of judging says of the request
-module _ (q : Request) (output : Columns) where
+module _ (q : StretchRequest) (output : Columns) where
   pub judged-number : (k n : ℕ) → After k n ≡ judged stretchedLimit q (shorter (length (newLine q)) output) → k ≡ stretchRefusal stretchedLimit q output
   unfolding stretchRefusal
   judged-number k n e = left-number (first (stretchRows stretchedLimit q output)) 0 (length (newLine q)) k n e

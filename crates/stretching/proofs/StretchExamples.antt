@@ -13,7 +13,7 @@ use Rattle.fitting.specs.Fit.{count, whole, added, copies, excess, squeezed, ov
 use Rattle.runs.specs.Records.{Record, listed, lineOf, columnsOf}
 use Rattle.runs.specs.Runs.{tileAction, wordNumbers, sum, room, repeatingWidth, tiles}
 use Rattle.runs.specs.Stretched.{inOrder, pieces, runPieces, next, moved, offsetAt, placed, placedRun, worked, stretched}
-use Rattle.stretching.specs.Stretching.{requestOf, outcome, stretchedLimit, stretchRefusal, stretchAfter}
+use Rattle.stretching.specs.Stretching.{stretchRequest, stretchOutcome, stretchedLimit, stretchRefusal, stretchAfter}
 
 -- a letter of an advance, and a tile of an action and a width
 abbrev letter : ℤ → Record
@@ -60,11 +60,11 @@ largest = refl
 abbrev two : List Record
 two = letter (pos 10) ∷ tile repeating (pos 5) ∷ []
 
-pub no-room : stretchAfter stretchedLimit (requestOf true true (columnsOf two)) (columnsOf two) ≡ After 8 (outcome 0 (columnsOf two))
+pub no-room : stretchAfter stretchedLimit (stretchRequest true true (columnsOf two)) (columnsOf two) ≡ After 8 (stretchOutcome 0 (columnsOf two))
 unfolding stretchRefusal listed lineOf clamped satAdd satSub count whole added copies excess squeezed overlap start tileAction wordNumbers sum room repeatingWidth tiles inOrder pieces runPieces next moved offsetAt placed placedRun worked stretched
 no-room = refl
 
 -- nothing recorded: the same line fits as it is
-pub not-recorded : stretchAfter stretchedLimit (requestOf false true (columnsOf two)) (columnsOf two) ≡ After 0 (outcome 2 (columnsOf two))
+pub not-recorded : stretchAfter stretchedLimit (stretchRequest false true (columnsOf two)) (columnsOf two) ≡ After 0 (stretchOutcome 2 (columnsOf two))
 unfolding stretchRefusal listed lineOf
 not-recorded = refl

@@ -21,7 +21,7 @@ use Rattle.runs.specs.Records.{Columns}
 use Rattle.copying.specs.Pasted.{EvenLine, Roomy}
 use Rattle.stretching.specs.declared.Answer.{Answer}
 use Rattle.stretching.specs.declared.Answer.the-variants.{Stretched}
-use Rattle.stretching.specs.Stretching.{stretchedLimit, Request, Outcome, outcome, newLine, laidOver, unequal, shorter, stretchRefusal, numberSaid, lengthSaid, stretchAfter, Stretching}
+use Rattle.stretching.specs.Stretching.{stretchedLimit, StretchRequest, StretchOutcome, stretchOutcome, newLine, laidOver, unequal, shorter, stretchRefusal, numberSaid, lengthSaid, stretchAfter, Stretching}
 
 -- ---- an answer is known by what it says
 pub same-answer : (r u : Answer) → numberSaid r ≡ numberSaid u → lengthSaid r ≡ lengthSaid u → r ≡ u
@@ -34,31 +34,31 @@ same-answer (Answer.Refused k) (Answer.Refused l) e f =
     ap Answer.Refused same
 
 -- any two answers that the statement allows are equal, and leave the same output
-pub one-answer : (q : Request) (output : Columns) (r u : Answer) (left other : Columns) → Stretching q output r left → Stretching q output u other → (r ≡ u) × (left ≡ other)
+pub one-answer : (q : StretchRequest) (output : Columns) (r u : Answer) (left other : Columns) → Stretching q output r left → Stretching q output u other → (r ≡ u) × (left ≡ other)
 one-answer q output r u left other x y =
     let g = alike _ _ _ _ (stretchAfter stretchedLimit q output) x y in
-    (same-answer r u (g .0) (ap (λ (o : Outcome). o .count) (g .1)), ap (λ (o : Outcome). o .output) (g .1))
+    (same-answer r u (g .0) (ap (λ (o : StretchOutcome). o .count) (g .1)), ap (λ (o : StretchOutcome). o .output) (g .1))
 
 -- ---- what a call leaves that is refused, and one that is not
-module _ (q : Request) (output : Columns) (r : Answer) (left : Columns) (x : Stretching q output r left) where
-  abbrev old : Outcome
-  old = outcome 0 output
+module _ (q : StretchRequest) (output : Columns) (r : Answer) (left : Columns) (x : Stretching q output r left) where
+  abbrev old : StretchOutcome
+  old = stretchOutcome 0 output
 
-  abbrev new : Outcome
-  new = outcome (length (newLine q)) (laidOver (newLine q) output)
+  abbrev new : StretchOutcome
+  new = stretchOutcome (length (newLine q)) (laidOver (newLine q) output)
 
   pub number-given : numberSaid r ≡ stretchRefusal stretchedLimit q output
-  number-given = left-number (stretchRefusal stretchedLimit q output) old new (numberSaid r) (outcome (lengthSaid r) left) x
+  number-given = left-number (stretchRefusal stretchedLimit q output) old new (numberSaid r) (stretchOutcome (lengthSaid r) left) x
 
   pub refused-left : (numberSaid r ≡ 0 → ⊥) → (left ≡ output) × (lengthSaid r ≡ 0)
   refused-left d =
-      let g = left-stays (stretchRefusal stretchedLimit q output) old new (numberSaid r) (outcome (lengthSaid r) left) x d in
-      (ap (λ (o : Outcome). o .output) g, ap (λ (o : Outcome). o .count) g)
+      let g = left-stays (stretchRefusal stretchedLimit q output) old new (numberSaid r) (stretchOutcome (lengthSaid r) left) x d in
+      (ap (λ (o : StretchOutcome). o .output) g, ap (λ (o : StretchOutcome). o .count) g)
 
   pub accepted-left : numberSaid r ≡ 0 → (left ≡ laidOver (newLine q) output) × (lengthSaid r ≡ length (newLine q))
   accepted-left z =
-      let g = left-accepted (stretchRefusal stretchedLimit q output) old new (numberSaid r) (outcome (lengthSaid r) left) x z in
-      (ap (λ (o : Outcome). o .output) g, ap (λ (o : Outcome). o .count) g)
+      let g = left-accepted (stretchRefusal stretchedLimit q output) old new (numberSaid r) (stretchOutcome (lengthSaid r) left) x z in
+      (ap (λ (o : StretchOutcome). o .output) g, ap (λ (o : StretchOutcome). o .count) g)
 
 -- ---- a request that is not refused
 -- a line whose columns are of one length
@@ -99,14 +99,14 @@ has-room n c z =
     }
 
 -- of the rows that stretching uses, none applies
-pub record Allowed (q : Request) (output : Columns) : Type 0 where
+pub record Allowed (q : StretchRequest) (output : Columns) : Type 0 where
   pub even : EvenLine (q .line)
   pub few : length (q .line .actions) ≤ lineLimit
   pub known : atMost repeating (q .line .actions) ≡ true
   pub not-over : length (newLine q) ≤ stretchedLimit
   pub room : Roomy (length (newLine q)) output
 
-pub allowed : (q : Request) (output : Columns) → stretchRefusal stretchedLimit q output ≡ 0 → Allowed q output
+pub allowed : (q : StretchRequest) (output : Columns) → stretchRefusal stretchedLimit q output ≡ 0 → Allowed q output
 unfolding stretchRefusal
 allowed q output z =
     let n = length (newLine q) in

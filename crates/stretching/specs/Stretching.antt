@@ -1,4 +1,4 @@
--- The call that stretches a line: `stretchedLimit` how many records its answer may have; `Request`, `requestOf` what is asked for; `Columns` (crate runs) what is lent, the line's and the output's; `Outcome`, `outcome` what is there afterwards; `newLine` what stretching gives; `over`, `laidOver` where it is laid;
+-- The call that stretches a line: `stretchedLimit` how many records its answer may have; `StretchRequest`, `stretchRequest` what is asked for; `Columns` (crate runs) what is lent, the line's and the output's; `StretchOutcome`, `stretchOutcome` what is there afterwards; `newLine` what stretching gives; `over`, `laidOver` where it is laid;
 -- `differing`, `unequal`, `lacking`, `shorter`, `rowsOf`, `stretchRows`, `stretchRefusal` when it is refused, and with which number; `numberSaid`, `lengthSaid` what an answer says; `judged`, `Judging` what is answered before anything is laid; `stretchAfter`, `Stretching` what the call answers and leaves, of every input; `NewLength` the length of the new line, of some columns of the line.
 -- Assumes nothing.
 use mathlib.Core.Path.{_≡_}
@@ -24,24 +24,24 @@ abbrev pub stretchedLimit : ℕ
 stretchedLimit = 16384
 
 -- whether any record was recorded, the direction, and the line
-pub record Request : Type 0 where
+pub record StretchRequest : Type 0 where
   pub recorded : Bool
   pub rtl : Bool
   pub line : Columns
 
-abbrev pub requestOf : Bool → Bool → Columns → Request
-requestOf recorded rtl line = record { recorded = recorded; rtl = rtl; line = line }
+abbrev pub stretchRequest : Bool → Bool → Columns → StretchRequest
+stretchRequest recorded rtl line = record { recorded = recorded; rtl = rtl; line = line }
 
 -- the length that the call answers, and the output columns afterwards
-pub record Outcome : Type 0 where
+pub record StretchOutcome : Type 0 where
   pub count : ℕ
   pub output : Columns
 
-abbrev pub outcome : ℕ → Columns → Outcome
-outcome count output = record { count = count; output = output }
+abbrev pub stretchOutcome : ℕ → Columns → StretchOutcome
+stretchOutcome count output = record { count = count; output = output }
 
 -- "stretching is lent this and, if not, gives the line as it is"
-abbrev pub newLine : Request → List Record
+abbrev pub newLine : StretchRequest → List Record
 newLine q = cond (q .recorded) (stretched (q .rtl) (lineOf (q .line))) (lineOf (q .line))
 
 -- records over the first places of the output: "Output past the answer is untouched"
@@ -93,7 +93,7 @@ shorter n c =
     (length (c .offsets))
 
 -- the rows of document 01's table that stretching uses, under a cap; `short` if the output is shorter than the answer
-abbrev pub rowsOf : ℕ → Request → Bool → List Row
+abbrev pub rowsOf : ℕ → StretchRequest → Bool → List Row
 rowsOf cap q short =
     Given 1 (unequal (q .line)) ∷
     Given 2 (ltb lineLimit (length (q .line .actions))) ∷
@@ -103,10 +103,10 @@ rowsOf cap q short =
     Given 8 short ∷
     []
 
-abbrev pub stretchRows : ℕ → Request → Columns → List Row
+abbrev pub stretchRows : ℕ → StretchRequest → Columns → List Row
 stretchRows cap q output = rowsOf cap q (shorter (length (newLine q)) output)
 
-unfoldable pub stretchRefusal : ℕ → Request → Columns → ℕ
+unfoldable pub stretchRefusal : ℕ → StretchRequest → Columns → ℕ
 stretchRefusal cap q output = first (stretchRows cap q output)
 
 -- what an answer says; a refusal has its number, and 0 for the length
@@ -119,22 +119,22 @@ lengthSaid (Stretched n) = n
 lengthSaid (Refused k) = 0
 
 -- what is answered before anything is laid: the number, and the length, 0 with a refusal
-abbrev pub judged : ℕ → Request → Bool → Left ℕ
+abbrev pub judged : ℕ → StretchRequest → Bool → Left ℕ
 judged cap q short = leaves (first (rowsOf cap q short)) 0 (length (newLine q))
 
-abbrev pub Judging : ℕ → Request → Bool → Answer → Type 0
+abbrev pub Judging : ℕ → StretchRequest → Bool → Answer → Type 0
 Judging cap q short r = After (numberSaid r) (lengthSaid r) ≡ judged cap q short
 
 -- the call under a cap: a refusal leaves the output as it was
-abbrev pub stretchAfter : ℕ → Request → Columns → Left Outcome
-stretchAfter cap q output = leaves (stretchRefusal cap q output) (outcome 0 output) (outcome (length (newLine q)) (laidOver (newLine q) output))
+abbrev pub stretchAfter : ℕ → StretchRequest → Columns → Left StretchOutcome
+stretchAfter cap q output = leaves (stretchRefusal cap q output) (stretchOutcome 0 output) (stretchOutcome (length (newLine q)) (laidOver (newLine q) output))
 
 -- the statement of `stretch`: asked for q with an output lent, it may answer r and leave the output `left`
-abbrev pub Stretching : Request → Columns → Answer → Columns → Type 0
-Stretching q output r left = After (numberSaid r) (outcome (lengthSaid r) left) ≡ stretchAfter stretchedLimit q output
+abbrev pub Stretching : StretchRequest → Columns → Answer → Columns → Type 0
+Stretching q output r left = After (numberSaid r) (stretchOutcome (lengthSaid r) left) ≡ stretchAfter stretchedLimit q output
 
 -- ---- what is answered by calls that are lent a part of that
 -- the length of the new line, of any line with these columns
 abbrev pub NewLength : Bool → Bool → Columns → ℕ → Type 0
 NewLength recorded rtl l r =
-    (c : Columns) → Lent c (l .widths) (l .categories) (l .ignorables) (l .actions) (l .advances) → r ≡ length (newLine (requestOf recorded rtl c))
+    (c : Columns) → Lent c (l .widths) (l .categories) (l .ignorables) (l .actions) (l .advances) → r ≡ length (newLine (stretchRequest recorded rtl c))

@@ -7,7 +7,7 @@ ghost use Rattle.refusals.specs.Columns.{lineLimit, atMost};
 ghost use Rattle.letters.specs.Actions.{repeating};
 ghost use Rattle.runs.specs.Records.{columnsLent};
 ghost use Rattle.runs.specs.Measured.{measuresNow, measuresLent, Even};
-ghost use Rattle.stretching.specs.Stretching.{stretchedLimit, requestOf, newLine, differing, lacking, numberSaid, lengthSaid, NewLength, Judging, Stretching};
+ghost use Rattle.stretching.specs.Stretching.{stretchedLimit, stretchRequest, newLine, differing, lacking, numberSaid, lengthSaid, NewLength, Judging, Stretching};
 use letters::Action;
 use letters::Category;
 use refusals::Refusal;
@@ -121,7 +121,7 @@ fn judge(
 ) -> Answer
     ensures { λ r.
         let line = columnsLent glyphs widths categories ignorables actions advances offsets in
-        let q = requestOf recorded rtl (line .entry) in
+        let q = stretchRequest recorded rtl (line .entry) in
         let short = lacking (length (newLine q)) «to_glyphs» «to_widths» «to_categories» «to_ignorables» «to_actions» «to_advances» «to_offsets» in
         ⌜ Judging stretchedLimit q short r ⌝ }
 {
@@ -194,7 +194,7 @@ pub fn stretch(
     ensures { λ r.
         let line = columnsLent glyphs widths categories ignorables actions advances offsets in
         let output = columnsLent «to_glyphs» «to_widths» «to_categories» «to_ignorables» «to_actions» «to_advances» «to_offsets» in
-        ⌜ Stretching (requestOf recorded rtl (line .entry)) (output .entry) r (output .exit) ⌝ }
+        ⌜ Stretching (stretchRequest recorded rtl (line .entry)) (output .entry) r (output .exit) ⌝ }
 {
     let answer = judge(
         recorded,

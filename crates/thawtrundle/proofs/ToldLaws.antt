@@ -14,7 +14,7 @@ use Rattle.marks.specs.Reordered as marks
 use Rattle.reading.specs.declared.Lookup.{Lookup}
 use Rattle.reading.specs.declared.Answer.{Answer}
 use Rattle.reading.specs.declared.Answer.the-variants.{Read, Refused}
-use Rattle.reading.specs.Read.{Columns, Outcome, typeOf, componentsOf, numberSaid, outcomeSaid}
+use Rattle.reading.specs.Read.{Columns, ReadOutcome, typeOf, componentsOf, readNumber, outcomeSaid}
 use Rattle.thawtrundle.specs.Told.{told, places, toldOf, seen, readAs}
 
 pub handed : {A : Type 0} {x : Left A} {n k : ℕ} {m : A} → n ≡ k → After k m ≡ x → After n m ≡ x
@@ -24,7 +24,7 @@ pub handed-with : {A B C : Type 0} (f : A → B → C) (rest : B) {x : Left C} {
 handed-with f rest e g j = ap₂ After e (ap (λ a. f a rest) g) ∙ j
 
 -- marks
-module _ (r : Marked) (d : marks.Columns) {x : Left marks.Outcome} (j : After (marks.numberSaid r) (marks.outcome (marks.rangesSaid r) d) ≡ x) where
+module _ (r : Marked) (d : marks.Columns) {x : Left marks.ReorderOutcome} (j : After (marks.numberSaid r) (marks.reorderOutcome (marks.rangesSaid r) d) ≡ x) where
   pub reordered-as : (m : Merged) {n : ℕ} {l : List ℕ} → r ≡ marked.Reordered m → n ≡ length (marks.listed m) → l ≡ places (marks.listed m) → After 0 (told n l d) ≡ seen toldOf x
   reordered-as m e f g = rw (f, g) (ap (seen toldOf) (rw e at j))
 
@@ -32,7 +32,7 @@ module _ (r : Marked) (d : marks.Columns) {x : Left marks.Outcome} (j : After (m
   unmoved-as k e f = rw f (ap (seen toldOf) (rw e at j))
 
 -- a lookup
-module _ (r : Answer) (c : Columns) {x : Left Outcome} (j : After (numberSaid r) (outcomeSaid r c) ≡ x) where
+module _ (r : Answer) (c : Columns) {x : Left ReadOutcome} (j : After (readNumber r) (outcomeSaid r c) ≡ x) where
   pub read-as :
       (l : Lookup) {t n : ℕ} → r ≡ Read l → t ≡ typeOf (l .kind) → n ≡ componentsOf (l .kind)
       → After 0 (readAs t n (l .flags) (l .len) (c .glyphs) (c .substitutes)) ≡ x

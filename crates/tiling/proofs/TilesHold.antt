@@ -16,7 +16,7 @@ use Rattle.runs.specs.Stretched.{inOrder, partOf, work, runPieces, placed, plac
 use Rattle.runs.proofs.RecordLaws.{blank, getD-listed, getD-in-order, spot-below, order-twice, length-work, length-in-order, work-at}
 use Rattle.runs.proofs.StretchedLaws.{length-placed}
 use Rattle.stretching.specs.declared.Answer.{Answer}
-use Rattle.stretching.specs.Stretching.{Request, numberSaid, lengthSaid, Stretching}
+use Rattle.stretching.specs.Stretching.{StretchRequest, numberSaid, lengthSaid, Stretching}
 use Rattle.demands.specs.Stretching.{records}
 use Rattle.tiling.specs.Tiles.{total, tileFirst, begins, Copied, Lapped, Numbered, OneNumber, addedAt, CountByPlaces, comes, OthersCome, TilesStand}
 use Rattle.demands.proofs.StretchingHolds.{count-left, records-left, line-recorded, count-added}
@@ -93,7 +93,7 @@ line-comes rtl c i k h =
     let b : i + k < length (c .actions) = omega (arith, h, length-parted isTile (drop i w), length-drop i w, length-work rtl c) in
     sym (work-at rtl c (i + k) b) ∙ sym (getD-drop i w k blank) ∙ run-first (drop i w) k h
 
-module _ (q : Request) (output : Columns) (r : Answer) (left : Columns) (x : Stretching q output r left) (z : numberSaid r ≡ 0) (e : q .recorded ≡ true) where
+module _ (q : StretchRequest) (output : Columns) (r : Answer) (left : Columns) (x : Stretching q output r left) (z : numberSaid r ≡ 0) (e : q .recorded ≡ true) where
   -- the output, in the order of the work
   worked-left : inOrder (q .rtl) (records (lengthSaid r) left) ≡ worked (q .rtl) false (work (q .rtl) (q .line))
   unfolding stretched work

@@ -15,7 +15,7 @@ use Rattle.runs.specs.Records.{Record, Columns, recordAt, kept}
 use Rattle.runs.specs.Runs.{acts, isTile, run, room, repeatingWidth, tiles}
 use Rattle.runs.specs.Stretched.{work}
 use Rattle.stretching.specs.declared.Answer.{Answer}
-use Rattle.stretching.specs.Stretching.{Request, numberSaid, lengthSaid, Stretching}
+use Rattle.stretching.specs.Stretching.{StretchRequest, numberSaid, lengthSaid, Stretching}
 
 -- ---- numbers: the repeating tiles of a run are w wide together, and each is there once and for each copy
 -- c is the number of copies: the least with which the tiles cover the room; of tiles that have no width above 0 one, if the room exceeds their width and there is a tile, else none
@@ -76,7 +76,7 @@ addedAt l copies i = cond (begins l i) (copies i * tiles (drop i l)) 0
 -- A line of which something was recorded grows by copies × tiles at each place where a run begins, and by nothing else.
 abbrev pub CountByPlaces : Type 0
 CountByPlaces =
-    (q : Request) (output : Columns) (r : Answer) (left : Columns) → Stretching q output r left → numberSaid r ≡ 0 → q .recorded ≡ true
+    (q : StretchRequest) (output : Columns) (r : Answer) (left : Columns) → Stretching q output r left → numberSaid r ≡ 0 → q .recorded ≡ true
     → let w = work (q .rtl) (q .line) in
     (copies : ℕ → ℕ) → Numbered w copies → lengthSaid r ≡ length (q .line .actions) + total (addedAt w copies) (length (q .line .actions))
 
@@ -88,7 +88,7 @@ comes rtl n c k = recordAt c (cond rtl (n - k - 1) k)
 -- A record that is no tile comes in the output as many places later as the runs before it have added, with all its numbers.
 abbrev pub OthersCome : Type 0
 OthersCome =
-    (q : Request) (output : Columns) (r : Answer) (left : Columns) → Stretching q output r left → numberSaid r ≡ 0 → q .recorded ≡ true
+    (q : StretchRequest) (output : Columns) (r : Answer) (left : Columns) → Stretching q output r left → numberSaid r ≡ 0 → q .recorded ≡ true
     → let w = work (q .rtl) (q .line) in
     (copies : ℕ → ℕ) → Numbered w copies → (i : ℕ) → i < length (q .line .actions) → tileFirst (drop i w) ≡ false
     → comes (q .rtl) (lengthSaid r) left (i + total (addedAt w copies) i) ≡ comes (q .rtl) (length (q .line .actions)) (q .line) i
@@ -127,7 +127,7 @@ pub record RunStands (rtl : Bool) (n c o : ℕ) (start : ℤ) (tile out : ℕ �
 -- The tiles of a run and their copies stand one behind the other. A run that begins at place i of the line begins in the output as many places later as the runs before it have added.
 abbrev pub TilesStand : Type 0
 TilesStand =
-    (q : Request) (output : Columns) (r : Answer) (left : Columns) → Stretching q output r left → numberSaid r ≡ 0 → q .recorded ≡ true
+    (q : StretchRequest) (output : Columns) (r : Answer) (left : Columns) → Stretching q output r left → numberSaid r ≡ 0 → q .recorded ≡ true
     → let w = work (q .rtl) (q .line) in
     (copies : ℕ → ℕ) → Numbered w copies → (i : ℕ) → begins w i ≡ true
     → let l = drop i w in

@@ -9,23 +9,23 @@ use Rattle.refusals.specs.Numbers.{said}
 use Rattle.refusals.proofs.VerdictLaws.{refused-number}
 use Rattle.refusals.proofs.LeftLaws.{left-refused, left-done}
 use Rattle.marks.specs.Passes.{reorderClasses, ranges}
-use Rattle.marks.specs.Reordered.{Request, Columns, Outcome, requestOf, columnsOf, outcome, rangesOf, reordered, reorderRefusal}
+use Rattle.marks.specs.Reordered.{ReorderRequest, Columns, ReorderOutcome, reorderRequest, columnsOf, reorderOutcome, rangesOf, reordered, reorderRefusal}
 use Rattle.marks.proofs.ReorderedLaws.{Allowed, allowed, part-lent, new-columns}
 use Rattle.marks.proofs.reorder_modifier_combining_marks.Statement.{statement}
 use Rattle.marks.proofs.reorder_modifier_combining_marks.Tie as tie
 
 -- what was asked for and lent, and what the call leaves if it is refused, and if it is not
-abbrev asked : tie.Start → Request
-asked s = let a = s .args in requestOf (a .start) (a .end) (a .low) (a .high)
+abbrev asked : tie.Start → ReorderRequest
+asked s = let a = s .args in reorderRequest (a .start) (a .end) (a .low) (a .high)
 
 abbrev lent : tie.Start → Columns
 lent s = columnsOf (s .args .codes .now) (s .args .classes .now)
 
-abbrev old : tie.Start → Outcome
-old s = outcome [] (lent s)
+abbrev old : tie.Start → ReorderOutcome
+old s = reorderOutcome [] (lent s)
 
-abbrev new : tie.Start → Outcome
-new s = outcome (rangesOf (asked s) (lent s)) (reordered (asked s) (lent s))
+abbrev new : tie.Start → ReorderOutcome
+new s = reorderOutcome (rangesOf (asked s) (lent s)) (reordered (asked s) (lent s))
 
 -- the number that the tests give
 found : (c : tie.After-refused) → let s = c .before .before .before in said (c .refused .result) ≡ reorderRefusal (asked s) (lent s)
@@ -96,7 +96,7 @@ returns-2 c =
     let done = c .before .before .before .before .reorder in
     let a = given t in
     left-done _ (old s) (new s) _ _ (accepted t) refl
-    (ap₂ outcome
+    (ap₂ reorderOutcome
     (done .ensures .0 ∙ ap (ranges (s .args .start) reorderClasses) (part-lent (asked s) (lent s)))
     (new-columns (asked s) (lent s) a (done .last .0) (done .last .1 .0) (done .kept .0) (done .kept .1 .0) (done .ensures .1)))
 

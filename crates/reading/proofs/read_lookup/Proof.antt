@@ -1,6 +1,6 @@
 -- `reading::read_lookup` meets its contract.
 -- Assumes nothing.
-use Rattle.reading.specs.Read.{columns}
+use Rattle.reading.specs.Read.{listOf}
 use Rattle.reading.proofs.ReadLaws.{no-lookup, held-none, held-single, held-ligature}
 use borrow.Author.Needs.{needs}
 use Rattle.reading.proofs.read_lookup.Statement.{statement}
@@ -42,7 +42,7 @@ returns c =
     let s : tie.Start = search in
     let r = c .before .before in
     let a = s .args in
-    no-lookup (a .bytes .now) (columns (a .glyphs .now) (a .substitutes .now)) (held-none (a .bytes .now) (c .enum-told .given .1) (r .recognize .ensures))
+    no-lookup (a .bytes .now) (listOf (a .glyphs .now) (a .substitutes .now)) (held-none (a .bytes .now) (c .enum-told .given .1) (r .recognize .ensures))
 
 same-length : tie.Need-same-length
 same-length c = search needs

@@ -8,22 +8,22 @@ use borrow.Author.Needs.{needs}
 use Rattle.refusals.specs.Numbers.{said}
 use Rattle.refusals.proofs.VerdictLaws.{refused-number}
 use Rattle.refusals.proofs.LeftLaws.{left-refused, left-done}
-use Rattle.recording.specs.Recorded.{Request, Outcome, requestOf, outcome, recorded, recordRefusal}
+use Rattle.recording.specs.Recorded.{RecordRequest, RecordOutcome, recordRequest, recordOutcome, recorded, recordRefusal}
 use Rattle.recording.proofs.RecordedLaws.{Allowed, allowed, recorded-masked, recorded-unmasked}
 use Rattle.recording.proofs.record_stch.Statement.{statement}
 use Rattle.recording.proofs.record_stch.Tie as tie
 
 -- what was asked for and lent, and what the call leaves if it is refused, and if it is not
-abbrev asked : tie.Start → Request
-asked s = requestOf (s .args .mask) (s .args .multiplied .now) (s .args .components .now)
+abbrev asked : tie.Start → RecordRequest
+asked s = recordRequest (s .args .mask) (s .args .multiplied .now) (s .args .components .now)
 
 abbrev lent : tie.Start → List ℕ
 lent s = s .args .actions .now
 
-abbrev old : tie.Start → Outcome
-old s = outcome false (lent s)
+abbrev old : tie.Start → RecordOutcome
+old s = recordOutcome false (lent s)
 
-abbrev new : tie.Start → Outcome
+abbrev new : tie.Start → RecordOutcome
 new s = recorded (asked s) (lent s)
 
 -- the number that the tests give

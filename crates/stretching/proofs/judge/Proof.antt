@@ -7,7 +7,7 @@ use Rattle.refusals.specs.Columns.{atMost}
 use Rattle.letters.specs.Categories.{Zs}
 use Rattle.letters.specs.Actions.{repeating}
 use Rattle.runs.specs.Records.{columns}
-use Rattle.stretching.specs.Stretching.{Request, requestOf, stretchedLimit, newLine, unequal, lacking}
+use Rattle.stretching.specs.Stretching.{StretchRequest, stretchRequest, stretchedLimit, newLine, unequal, lacking}
 use Rattle.stretching.proofs.StretchingLaws.{evenly}
 use Rattle.stretching.proofs.CallLaws.{judged-uneven, judged-long, judged-strange, judged-over, judged-short, judged-accepted}
 use borrow.Author.Needs.{needs}
@@ -15,8 +15,8 @@ use Rattle.stretching.proofs.judge.Statement.{statement}
 use Rattle.stretching.proofs.judge.Tie as tie
 
 -- what is asked for, and whether the output is shorter than the answer
-abbrev asked : tie.Start → Request
-asked s = requestOf (s .args .recorded) (s .args .rtl) (columns (s .args .glyphs .now) (s .args .widths .now) (s .args .categories .now) (s .args .ignorables .now) (s .args .actions .now) (s .args .advances .now) (s .args .offsets .now))
+abbrev asked : tie.Start → StretchRequest
+asked s = stretchRequest (s .args .recorded) (s .args .rtl) (columns (s .args .glyphs .now) (s .args .widths .now) (s .args .categories .now) (s .args .ignorables .now) (s .args .actions .now) (s .args .advances .now) (s .args .offsets .now))
 
 abbrev short : tie.Start → Bool
 short s =

@@ -11,7 +11,7 @@ use Rattle.refusals.proofs.LeftLaws.{left-refused, left-done}
 use Rattle.runs.specs.Records.{Columns, columns}
 use Rattle.runs.proofs.RecordLaws.{length-line}
 use Rattle.stretching.specs.declared.Answer.{Answer}
-use Rattle.stretching.specs.Stretching.{Request, requestOf, Outcome, outcome, stretchedLimit, newLine, laidOver, shorter, stretchRefusal, numberSaid, lengthSaid, judged}
+use Rattle.stretching.specs.Stretching.{StretchRequest, stretchRequest, StretchOutcome, stretchOutcome, stretchedLimit, newLine, laidOver, shorter, stretchRefusal, numberSaid, lengthSaid, judged}
 use Rattle.stretching.proofs.StretchingLaws.{Allowed, allowed}
 use Rattle.stretching.proofs.CallLaws.{length-recorded, judged-number, judged-length, work-laid, line-laid}
 use borrow.Author.Needs.{needs}
@@ -19,17 +19,17 @@ use Rattle.stretching.proofs.stretch.Statement.{statement}
 use Rattle.stretching.proofs.stretch.Tie as tie
 
 -- what was asked for and lent, and what the call leaves if it is refused, and if it is not
-abbrev asked : tie.Start → Request
-asked s = requestOf (s .args .recorded) (s .args .rtl) (columns (s .args .glyphs .now) (s .args .widths .now) (s .args .categories .now) (s .args .ignorables .now) (s .args .actions .now) (s .args .advances .now) (s .args .offsets .now))
+abbrev asked : tie.Start → StretchRequest
+asked s = stretchRequest (s .args .recorded) (s .args .rtl) (columns (s .args .glyphs .now) (s .args .widths .now) (s .args .categories .now) (s .args .ignorables .now) (s .args .actions .now) (s .args .advances .now) (s .args .offsets .now))
 
 abbrev output : tie.Start → Columns
 output s = (columns (s .args .to-glyphs .now) (s .args .to-widths .now) (s .args .to-categories .now) (s .args .to-ignorables .now) (s .args .to-actions .now) (s .args .to-advances .now) (s .args .to-offsets .now))
 
-abbrev old : tie.Start → Outcome
-old s = outcome 0 (output s)
+abbrev old : tie.Start → StretchOutcome
+old s = stretchOutcome 0 (output s)
 
-abbrev new : tie.Start → Outcome
-new s = outcome (length (newLine (asked s))) (laidOver (newLine (asked s)) (output s))
+abbrev new : tie.Start → StretchOutcome
+new s = stretchOutcome (length (newLine (asked s))) (laidOver (newLine (asked s)) (output s))
 
 -- what the tests answer
 abbrev answered : Answer → Left ℕ
@@ -120,7 +120,7 @@ returns-2 c =
     let long = length-said t in
     let laid-there = c .before .before .before .before .before .before .before .before .before .before .before .write .ensures ∙ work-laid (s .args .rtl) (said t) (asked s .line) (output s) (long ∙ (rw (c .before .before .before .before .before .before .before .before .before .before .before .before .before .before .before .before .before .before .before .if1 .taken) (length-recorded (s .args .rtl) (asked s .line)))) in
     left-done _ (old s) (new s) _ _ (accepted t) refl
-    (ap₂ outcome long (laid-there ∙ (rw (c .before .before .before .before .before .before .before .before .before .before .before .before .before .before .before .before .before .before .before .if1 .taken))))
+    (ap₂ stretchOutcome long (laid-there ∙ (rw (c .before .before .before .before .before .before .before .before .before .before .before .before .before .before .before .before .before .before .before .if1 .taken))))
 
 same-length-8 : tie.Need-same-length-8
 same-length-8 c = search needs
@@ -150,7 +150,7 @@ returns-3 c =
     let long = length-said t in
     let laid-there = c .before .before .before .before .before .before .before .before .before .before .before .keep .ensures ∙ line-laid (s .args .rtl) (said t) (asked s .line) (output s) (long ∙ (rw (c .before .before .before .before .before .before .before .before .before .before .before .before .before .before .before .before .before .before .before .if1 .left) (length-line (asked s .line)))) in
     left-done _ (old s) (new s) _ _ (accepted t) refl
-    (ap₂ outcome long (laid-there ∙ (rw (c .before .before .before .before .before .before .before .before .before .before .before .before .before .before .before .before .before .before .before .if1 .left))))
+    (ap₂ stretchOutcome long (laid-there ∙ (rw (c .before .before .before .before .before .before .before .before .before .before .before .before .before .before .before .before .before .before .before .if1 .left))))
 
 pub stretch-spec : {M : Type 1} → statement M
 stretch-spec =

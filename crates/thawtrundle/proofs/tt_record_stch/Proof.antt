@@ -1,6 +1,6 @@
 -- `tt_record_stch` meets its contract.
 -- Assumes nothing.
-use Rattle.recording.specs.Recorded.{outcome as recordedAs}
+use Rattle.recording.specs.Recorded.{recordOutcome}
 use Rattle.thawtrundle.proofs.ToldLaws.{handed-with}
 use borrow.Author.Needs.{needs}
 use Rattle.thawtrundle.proofs.tt_record_stch.Statement.{statement}
@@ -19,7 +19,7 @@ same-length : tie.Need-same-length
 same-length c = search needs
 
 returns : tie.Need-returns
-returns c = handed-with recordedAs _ (c .number .ensures) (c .before .recorded .ensures) (c .before .before .before .before .record-stch .ensures)
+returns c = handed-with recordOutcome _ (c .number .ensures) (c .before .recorded .ensures) (c .before .before .before .before .record-stch .ensures)
 
 pub tt-record-stch-spec : {M : Type 1} → statement M
 tt-record-stch-spec =

@@ -1,6 +1,6 @@
 -- `tt_serialize_single_lookup` meets its contract.
 -- Assumes nothing.
-use Rattle.layouts.specs.Written.{outcome as writtenAs}
+use Rattle.layouts.specs.Written.{writeOutcome}
 use Rattle.thawtrundle.proofs.ToldLaws.{handed-with}
 use borrow.Author.Needs.{needs}
 use Rattle.thawtrundle.proofs.tt_serialize_single_lookup.Statement.{statement}
@@ -19,7 +19,7 @@ same-length : tie.Need-same-length
 same-length c = search needs
 
 returns : tie.Need-returns
-returns c = handed-with writtenAs _ (c .number .ensures) (c .before .length .ensures) (c .before .before .before .before .serialize-single-lookup .ensures)
+returns c = handed-with writeOutcome _ (c .number .ensures) (c .before .length .ensures) (c .before .before .before .before .serialize-single-lookup .ensures)
 
 pub tt-serialize-single-lookup-spec : {M : Type 1} → statement M
 tt-serialize-single-lookup-spec =

@@ -1,6 +1,6 @@
 -- `tt_stretch` meets its contract.
 -- Assumes nothing.
-use Rattle.stretching.specs.Stretching.{outcome as stretchedAs}
+use Rattle.stretching.specs.Stretching.{stretchOutcome}
 use Rattle.thawtrundle.proofs.ToldLaws.{handed-with}
 use borrow.Author.Needs.{needs}
 use Rattle.thawtrundle.proofs.tt_stretch.Statement.{statement}
@@ -37,7 +37,7 @@ same-length-7 : tie.Need-same-length-7
 same-length-7 c = search needs
 
 returns : tie.Need-returns
-returns c = handed-with stretchedAs _ (c .number .ensures) (c .before .length .ensures) (c .before .before .before .before .before .before .before .before .before .before .before .before .before .stretch .ensures)
+returns c = handed-with stretchOutcome _ (c .number .ensures) (c .before .length .ensures) (c .before .before .before .before .before .before .before .before .before .before .before .before .before .stretch .ensures)
 
 pub tt-stretch-spec : {M : Type 1} → statement M
 tt-stretch-spec =

@@ -1,4 +1,4 @@
--- What the call answers: bytes that are no lookup (`no-lookup`), listOf too short for one (`no-room`), and a lookup read (`read-whole`); how many rules a lookup has, by the number of its bytes (`single-count`, `ligature-count`); so a lookup of each kind (`single-place`, `single-room`, `single-read`; `ligature-place`, `rules-count`, `parts-count`, `ligature-room`, `ligature-read`); what the bytes were recognized as (`held-none`, `held-single`, `held-ligature`).
+-- What the call answers: bytes that are no lookup (`no-lookup`), columns too short for one (`no-room`), and a lookup read (`read-whole`); how many rules a lookup has, by the number of its bytes (`single-count`, `ligature-count`); so a lookup of each kind (`single-place`, `single-room`, `single-read`; `ligature-place`, `rules-count`, `parts-count`, `ligature-room`, `ligature-read`); what the bytes were recognized as (`held-none`, `held-single`, `held-ligature`).
 -- Assumes nothing.
 use mathlib.Core.Path.{_≡_, refl, subst, _∙_}
 use mathlib.Core.Bool.{Bool, true, false, _||_}
@@ -83,7 +83,7 @@ module _ (b g s : List ℕ) (h : Held Single b) (n : ℕ) (count : n ≡ (length
   unfolding endOf
   single-place = omega (arith, n-is, h .within)
 
-  -- listOf of n and n
+  -- columns of n and n
   lengths : (t : Bool) → (ltb (length g) n || ltb (length s) n) ≡ t → (ltb (length g) (length (lookupAt Single b .glyphs)) || ltb (length s) (length (lookupAt Single b .substitutes))) ≡ t
   unfolding lookupAt
   lengths t e = rw (length-words b (18 + 2 * countAt b) (countAt b), length-words b 14 (countAt b), ← n-is) e

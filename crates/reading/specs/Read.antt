@@ -21,7 +21,7 @@ use Rattle.scanning.specs.Grammar.{reading}
 use Rattle.reading.specs.declared.Answer.{Answer}
 use Rattle.reading.specs.declared.Answer.the-variants.{Read, Refused}
 
--- two listOf for the list: glyphs, or flat components; substitutes, or ligatures
+-- two columns for the list: glyphs, or flat components; substitutes, or ligatures
 pub record Columns : Type 0 where
   pub glyphs : List ℕ
   pub substitutes : List ℕ
@@ -29,7 +29,7 @@ pub record Columns : Type 0 where
 abbrev pub listOf : List ℕ → List ℕ → Columns
 listOf glyphs substitutes = record { glyphs = glyphs; substitutes = substitutes }
 
--- the listOf lent, `.entry`, and those that come back, `.exit`
+-- the columns lent, `.entry`, and those that come back, `.exit`
 abbrev pub listLent : Borrowed ℕ → Borrowed ℕ → Both Columns Columns
 listLent glyphs substitutes =
     record {
@@ -53,11 +53,11 @@ abbrev pub componentsOf : Kind → ℕ
 componentsOf Single = 0
 componentsOf (Ligature n) = n
 
--- no lookup: zeros, and the listOf as they are
+-- no lookup: zeros, and the columns as they are
 abbrev pub nothing : Columns → ReadOutcome
 nothing c = record { type = 0; components = 0; flags = 0; count = 0; list = c }
 
--- a lookup, its list at the start of the listOf: "Output past the answer is untouched"
+-- a lookup, its list at the start of the columns: "Output past the answer is untouched"
 abbrev pub found : Lookup → Columns → ReadOutcome
 found l c =
     record {
@@ -105,10 +105,10 @@ abbrev pub outcomeSaid : Answer → Columns → ReadOutcome
 outcomeSaid (Read l) c = record { type = typeOf (l .kind); components = componentsOf (l .kind); flags = l .flags; count = l .len; list = c }
 outcomeSaid (Refused k) c = nothing c
 
--- a refusal leaves the listOf as they were
+-- a refusal leaves the columns as they were
 abbrev pub readAfter : List ℕ → Columns → Left ReadOutcome
 readAfter b c = leaves (readRefusal (reading b) c) (nothing c) (made (reading b) c)
 
--- the statement of `read_lookup`: lent the bytes b and two listOf, it may answer r and leave the listOf `left`
+-- the statement of `read_lookup`: lent the bytes b and two columns, it may answer r and leave the columns `left`
 abbrev pub Reading : List ℕ → Columns → Answer → Columns → Type 0
 Reading b c r left = After (readNumber r) (outcomeSaid r left) ≡ readAfter b c

@@ -35,8 +35,8 @@ module _ (r : Marked) (d : marks.Columns) {x : Left marks.ReorderOutcome} (j : A
 module _ (r : Answer) (c : Columns) {x : Left ReadOutcome} (j : After (readNumber r) (outcomeSaid r c) ≡ x) where
   pub read-as :
       (l : Lookup) {t n : ℕ} → r ≡ Read l → t ≡ typeOf (l .kind) → n ≡ componentsOf (l .kind)
-      → After 0 (readAs t n (l .flags) (l .len) (c .glyphs) (c .substitutes)) ≡ x
+      → After 0 (readAs t n (l .flags) (l .len) c) ≡ x
   read-as l e f g = rw (f, g) (rw e at j)
 
-  pub unread-as : (k : Refusal) {n : ℕ} → r ≡ Refused k → n ≡ numberOf k → After n (readAs 0 0 0 0 (c .glyphs) (c .substitutes)) ≡ x
+  pub unread-as : (k : Refusal) {n : ℕ} → r ≡ Refused k → n ≡ numberOf k → After n (readAs 0 0 0 0 c) ≡ x
   unread-as k e f = rw f (rw e at j)

@@ -5,26 +5,21 @@
 ghost use mathlib.Core.Path.{_≡_};
 ghost use Rattle.refusals.specs.Columns.{yes};
 ghost use Rattle.refusals.specs.Left.{After};
-ghost use Rattle.recording.specs.Recorded.{recordAfter};
-ghost use Rattle.recording.specs.Recorded.{recordRequest, recordOutcome};
-ghost use Rattle.lines.specs.Held.{mannerOf, settingLent, lineLent};
+ghost use Rattle.lines.specs.Held.{settingLent, lineLent};
 ghost use Rattle.lines.specs.Joined.{joinAfter};
 ghost use Rattle.replacing.specs.Replaced.{requestOf, replaceAfter};
-ghost use Rattle.marks.specs.Reordered.{reorderRequest, columnsOf, reorderAfter};
+ghost use Rattle.marks.specs.Reordered.{reorderRequest, marksLent, reorderAfter};
+ghost use Rattle.recording.specs.Recorded.{recordRequest, recordOutcome, recordAfter};
 ghost use Rattle.runs.specs.Records.{columnsLent};
 ghost use Rattle.stretching.specs.Stretching.{stretchedLimit, stretchAfter};
-ghost use Rattle.stretching.specs.Stretching.{stretchRequest, stretchOutcome};
 ghost use Rattle.layouts.specs.declared.Kind.the-variants.{Single, Ligature};
-ghost use Rattle.layouts.specs.Lookups.{lookupOf};
-ghost use Rattle.layouts.specs.Written.{writeAfter};
-ghost use Rattle.layouts.specs.Written.{writeOutcome};
-ghost use Rattle.reading.specs.Read.{readAfter};
-ghost use Rattle.reading.specs.Read.{listOf};
-ghost use Rattle.fallback.specs.Plan.{inputsOf};
+ghost use Rattle.layouts.specs.Lookups.{lookupLent};
+ghost use Rattle.layouts.specs.Written.{writeOutcome, writeAfter};
+ghost use Rattle.reading.specs.Read.{listLent, readAfter};
+ghost use Rattle.fallback.specs.Plan.{inputsLent};
 ghost use Rattle.fallback.specs.Planned.{planAfter};
-ghost use Rattle.fallback.specs.Planned.{planOutcome};
 ghost use Rattle.fallback.specs.Switch.{fallbackOn};
-ghost use Rattle.thawtrundle.specs.Told.{told, toldOf, seen, readAs, needsOf};
+ghost use Rattle.thawtrundle.specs.Told.{mannerLent, told, toldOf, seen, stretchAsked, stretchTold, readAs, planTold, needsOf};
 use fallback::FallbackPlan;
 use fallback::Needs;
 use letters::Category;
@@ -52,8 +47,7 @@ pub extern "C" fn tt_join_line(
     masks: &mut [u32],
 ) -> u8
     ensures { λ r.
-        let manner = mannerOf (now (features .entry)) (yes mongolian) in
-        let s = settingLent «pre_types» «pre_categories» «post_types» «post_categories» manner in
+        let s = settingLent «pre_types» «pre_categories» «post_types» «post_categories» (mannerLent features mongolian) in
         let l = lineLent codes types categories base actions masks in
         ⌜ After r (l .exit) ≡ joinAfter s (l .entry) ⌝ }
 {
@@ -98,8 +92,7 @@ pub extern "C" fn tt_replace_letter(
     category: u8,
 ) -> u8
     ensures { λ r.
-        let manner = mannerOf (now (features .entry)) (yes mongolian) in
-        let s = settingLent «pre_types» «pre_categories» «post_types» «post_categories» manner in
+        let s = settingLent «pre_types» «pre_categories» «post_types» «post_categories» (mannerLent features mongolian) in
         let q = requestOf place code «joining_type» category in
         let l = lineLent codes types categories base actions masks in
         ⌜ After r (l .exit) ≡ replaceAfter s q (l .entry) ⌝ }
@@ -142,7 +135,9 @@ pub extern "C" fn tt_reorder_modifier_combining_marks(
     count: &mut usize,
     ranges: &mut [usize; 4],
 ) -> u8
-    ensures { λ r. ⌜ After r (told (now (count .exit)) (now (ranges .exit)) (columnsOf (now (codes .exit)) (now (classes .exit)))) ≡ seen toldOf (reorderAfter (reorderRequest start end low high) (columnsOf (now (codes .entry)) (now (classes .entry)))) ⌝ }
+    ensures { λ r.
+        let c = marksLent codes classes in
+        ⌜ After r (told (now (count .exit)) (now (ranges .exit)) (c .exit)) ≡ seen toldOf (reorderAfter (reorderRequest start end low high) (c .entry)) ⌝ }
 {
     match marks::reorder_modifier_combining_marks(codes, classes, start, end, low, high) {
         marks::Answer::Reordered(merged) => match merged {
@@ -179,7 +174,9 @@ pub extern "C" fn tt_record_stch(
     actions: &mut [u8],
     recorded: &mut bool,
 ) -> u8
-    ensures { λ r. ⌜ After r (recordOutcome (now (recorded .exit)) (now (actions .exit))) ≡ recordAfter (recordRequest mask (now (multiplied .entry)) (now (components .entry))) (now (actions .entry)) ⌝ }
+    ensures { λ r.
+        let q = recordRequest mask (now (multiplied .entry)) (now (components .entry)) in
+        ⌜ After r (recordOutcome (now (recorded .exit)) (now (actions .exit))) ≡ recordAfter q (now (actions .entry)) ⌝ }
 {
     let answer = recording::record_stch(mask, multiplied, components, actions);
     *recorded = answer.recorded();
@@ -210,7 +207,7 @@ pub extern "C" fn tt_stretch(
     ensures { λ r.
         let line = columnsLent glyphs widths categories ignorables actions advances offsets in
         let output = columnsLent «to_glyphs» «to_widths» «to_categories» «to_ignorables» «to_actions» «to_advances» «to_offsets» in
-        ⌜ After r (stretchOutcome (now (length .exit)) (output .exit)) ≡ stretchAfter stretchedLimit (stretchRequest (yes recorded) (yes rtl) (line .entry)) (output .entry) ⌝ }
+        ⌜ After r (stretchTold length output) ≡ stretchAfter stretchedLimit (stretchAsked recorded rtl line) (output .entry) ⌝ }
 {
     let answer = stretching::stretch(
         recorded != 0,
@@ -243,7 +240,9 @@ pub extern "C" fn tt_serialize_single_lookup(
     area: &mut [u8],
     length: &mut usize,
 ) -> u8
-    ensures { λ r. ⌜ After r (writeOutcome (now (length .exit)) (now (area .exit))) ≡ writeAfter (lookupOf flags Single (now (glyphs .entry)) (now (substitutes .entry))) (now (area .entry)) ⌝ }
+    ensures { λ r.
+        let l = lookupLent flags Single glyphs substitutes in
+        ⌜ After r (writeOutcome (now (length .exit)) (now (area .exit))) ≡ writeAfter l (now (area .entry)) ⌝ }
 {
     let written = singles::serialize_single_lookup(glyphs, substitutes, flags, area);
     *length = written.length();
@@ -260,7 +259,9 @@ pub extern "C" fn tt_serialize_ligature_lookup(
     area: &mut [u8],
     length: &mut usize,
 ) -> u8
-    ensures { λ r. ⌜ After r (writeOutcome (now (length .exit)) (now (area .exit))) ≡ writeAfter (lookupOf flags (Ligature n) (now (components .entry)) (now (ligatures .entry))) (now (area .entry)) ⌝ }
+    ensures { λ r.
+        let l = lookupLent flags (Ligature n) components ligatures in
+        ⌜ After r (writeOutcome (now (length .exit)) (now (area .exit))) ≡ writeAfter l (now (area .entry)) ⌝ }
 {
     let written = ligatures::serialize_ligature_lookup(n, components, ligatures, flags, area);
     *length = written.length();
@@ -278,7 +279,9 @@ pub extern "C" fn tt_read_lookup(
     flags: &mut u16,
     count: &mut usize,
 ) -> u8
-    ensures { λ r. ⌜ After r (readAs (now (kind .exit)) (now (components .exit)) (now (flags .exit)) (now (count .exit)) (now (glyphs .exit)) (now (substitutes .exit))) ≡ readAfter (now (bytes .entry)) (listOf (now (glyphs .entry)) (now (substitutes .entry))) ⌝ }
+    ensures { λ r.
+        let list = listLent glyphs substitutes in
+        ⌜ After r (readAs (now (kind .exit)) (now (components .exit)) (now (flags .exit)) (now (count .exit)) (list .exit)) ≡ readAfter (now (bytes .entry)) (list .entry) ⌝ }
 {
     match reading::read_lookup(bytes, glyphs, substitutes) {
         Answer::Read(lookup) => {
@@ -318,7 +321,9 @@ pub extern "C" fn tt_fallback_plan(
     entry_masks: &mut [u32; 7],
     entry_lengths: &mut [u32; 7],
 ) -> u8
-    ensures { λ r. ⌜ After r (planOutcome (now (count .exit)) (now («entry_masks» .exit)) (now («entry_lengths» .exit)) (now (area .exit))) ≡ planAfter (inputsOf (now (masks .entry)) (now (codes .entry)) (now (glyphs .entry)) (now (shaping .entry)) (now (forms .entry)) (now («three_components» .entry)) (now («three_ligatures» .entry)) (now («two_components» .entry)) (now («two_ligatures» .entry)) (now («mark_components» .entry)) (now («mark_ligatures» .entry))) (now (area .entry)) ⌝ }
+    ensures { λ r.
+        let i = inputsLent (now (masks .entry)) codes glyphs shaping forms «three_components» «three_ligatures» «two_components» «two_ligatures» «mark_components» «mark_ligatures» in
+        ⌜ After r (planTold count «entry_masks» «entry_lengths» area) ≡ planAfter i (now (area .entry)) ⌝ }
 {
     let plan = FallbackPlan::new(
         *masks,

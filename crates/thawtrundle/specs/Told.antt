@@ -1,5 +1,5 @@
 -- What a caller of the interface hands over and is told, where that is more than a call's own numbers: `mannerLent` feature masks and a byte for yes or no; `Told`, `told`, `places`, `toldOf` the ranges of reordered marks in four places;
--- `seen` what a call leaves, told so; `stretchAsked`, `stretchTold` a line to be stretched, and the length with the output; `readAs` a lookup as read, number by number; `planTold` a plan; `needsOf` what a font leaves to the fallback.
+-- `seen` what a call leaves, told so; `lineAsked`, `lineTold` a line to be stretched, and the length with the output; `readAs` a lookup as read, number by number; `planTold` a plan; `needsOf` what a font leaves to the fallback.
 -- Assumes nothing.
 use mathlib.Core.Bool.{Bool}
 use mathlib.Core.List.{List, [], _∷_}
@@ -51,12 +51,12 @@ abbrev pub seen : {A B : Type 0} → (A → B) → Left A → Left B
 seen f (After number there) = After number (f there)
 
 -- a line to be stretched, as it is lent; a byte other than 0 is a yes
-abbrev pub stretchAsked : ℕ → ℕ → Both Columns Columns → StretchRequest
-stretchAsked recorded rtl line = stretchRequest (yes recorded) (yes rtl) (line .entry)
+abbrev pub lineAsked : ℕ → ℕ → Both Columns Columns → StretchRequest
+lineAsked recorded rtl line = stretchRequest (yes recorded) (yes rtl) (line .entry)
 
 -- the length that is told, and the output as it comes back
-abbrev pub stretchTold : Lent → Both Columns Columns → StretchOutcome
-stretchTold length output = stretchOutcome (now (length .exit)) (output .exit)
+abbrev pub lineTold : Lent → Both Columns Columns → StretchOutcome
+lineTold length output = stretchOutcome (now (length .exit)) (output .exit)
 
 -- a lookup as read: OpenType's type (1 or 4), components, flags, rules, and the two columns afterwards
 abbrev pub readAs : ℕ → ℕ → ℕ → ℕ → reading.Columns → reading.ReadOutcome

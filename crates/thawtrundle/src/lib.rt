@@ -19,7 +19,7 @@ ghost use Rattle.reading.specs.Read.{listLent, readAfter};
 ghost use Rattle.fallback.specs.Plan.{inputsLent};
 ghost use Rattle.fallback.specs.Planned.{planAfter};
 ghost use Rattle.fallback.specs.Switch.{fallbackOn};
-ghost use Rattle.thawtrundle.specs.Told.{mannerLent, told, toldOf, seen, stretchAsked, stretchTold, readAs, planTold, needsOf};
+ghost use Rattle.thawtrundle.specs.Told.{mannerLent, told, toldOf, seen, lineAsked, lineTold, readAs, planTold, needsOf};
 use fallback::FallbackPlan;
 use fallback::Needs;
 use letters::Category;
@@ -205,9 +205,9 @@ pub extern "C" fn tt_stretch(
     length: &mut usize,
 ) -> u8
     ensures { λ r.
-        let line = columnsLent glyphs widths categories ignorables actions advances offsets in
-        let output = columnsLent «to_glyphs» «to_widths» «to_categories» «to_ignorables» «to_actions» «to_advances» «to_offsets» in
-        ⌜ After r (stretchTold length output) ≡ stretchAfter stretchedLimit (stretchAsked recorded rtl line) (output .entry) ⌝ }
+        let l = columnsLent glyphs widths categories ignorables actions advances offsets in
+        let o = columnsLent «to_glyphs» «to_widths» «to_categories» «to_ignorables» «to_actions» «to_advances» «to_offsets» in
+        ⌜ After r (lineTold length o) ≡ stretchAfter stretchedLimit (lineAsked recorded rtl l) (o .entry) ⌝ }
 {
     let answer = stretching::stretch(
         recorded != 0,

@@ -41,16 +41,24 @@ returns-3 c =
     (counted-many (s .args .most) (s .args .bytes .now) (s .args .at) (omega (arith, s .pre .0, u .before .if1 .left)) (u .u16-at .result) (u .u16-at .ensures) (c .if3 .taken), tt)
 
 cast-t10 : tie.Need-cast-t10
-cast-t10 c = omega (arith, c .if3 .left, c .before .before .before .before .before .pre .1)
+cast-t10 c =
+    let s : tie.Start = search in
+    omega (arith, c .if3 .left, s .pre .1)
 
 slice-aggregate-exactly : tie.Need-slice-aggregate-exactly
 slice-aggregate-exactly c = search needs
 
 add-exactly : tie.Need-add-exactly
-add-exactly c = omega (arith, c .before .before .before .before .before .before .pre .0, c .before .before .before .before .if1 .left)
+add-exactly c =
+    let s : tie.Start = search in
+    let at-else1 : tie.Else1 = search in
+    omega (arith, s .pre .0, at-else1 .if1 .left)
 
 exactly-requires : tie.Need-exactly-requires
-exactly-requires c κs = omega (arith, c .before .before .before .before .before .before .pre .0, c .before .before .before .before .if1 .left)
+exactly-requires c κs =
+    let s : tie.Start = search in
+    let at-else1 : tie.Else1 = search in
+    omega (arith, s .pre .0, at-else1 .if1 .left)
 
 returns-4 : tie.Need-returns-4
 returns-4 c =

@@ -48,7 +48,9 @@ returns-2 c =
     l .loop .inv .3 (Wrong (l .loop .p)) (rw (drop-next (a .words .now) (l .loop .i) 0 (e .before .loop-test .taken)) (these-wrong _ _ (a .bytes .now) (l .loop .p) (omega (arith, l .loop .inv .1, e .if1 .left)) (λ q. c .if2 .taken (u .u16-at .ensures ∙ q))))
 
 add-p : tie.Need-add-p Inv-loop μ-loop
-add-p c = omega (arith, c .before .before .before .before .before .loop .inv .1, c .before .before .before .if1 .left)
+add-p c =
+    let at-loop : tie.At-loop Inv-loop μ-loop = search in
+    omega (arith, at-loop .loop .inv .1, c .before .before .before .if1 .left)
 
 add-i : tie.Need-add-i Inv-loop μ-loop
 add-i c = omega arith

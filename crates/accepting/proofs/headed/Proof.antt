@@ -39,7 +39,9 @@ slice-aggregate-exactly-2 : tie.Need-slice-aggregate-exactly-2
 slice-aggregate-exactly-2 c = search needs
 
 exactly-requires-2 : tie.Need-exactly-requires-2
-exactly-requires-2 c κs = took-place _ _ (c .before .before .flags .given .1) (c .before .before .before .before .several .ensures) .1
+exactly-requires-2 c κs =
+    let at-several : tie.After-several = search in
+    took-place _ _ (c .before .before .flags .given .1) (at-several .several .ensures) .1
 
 returns-3 : tie.Need-returns-3
 returns-3 c =

@@ -41,7 +41,9 @@ returns c =
     l .loop .inv .4 Short (rise-short (a .apart) (a .bytes .now) (l .loop .p) (l .loop .left) (l .loop .low) (c .before .loop-test .taken) (omega (arith, l .loop .inv .1, c .if1 .taken)))
 
 add-high : tie.Need-add-high Inv-loop μ-loop
-add-high c = omega (arith, c .before .before .loop .inv .3, c .before .before .before .before .pre .1)
+add-high c =
+    let s : tie.Start Inv-loop μ-loop = search in
+    omega (arith, c .before .before .loop .inv .3, s .pre .1)
 
 u16-at-requires : tie.Need-u16-at-requires Inv-loop μ-loop
 u16-at-requires c κs = omega (arith, c .before .before .loop .inv .1, c .if1 .left)
@@ -61,10 +63,14 @@ returns-2 c =
     l .loop .inv .4 (Wrong (l .loop .p)) (rw (← one) (rise-wrong (a .apart) (a .bytes .now) (l .loop .p) (l .loop .left - 1) (l .loop .low) (omega (arith, l .loop .inv .1, e .if1 .left)) (rw (← w) (rise-test (l .loop .low) (l .loop .high + a .apart) (u .u16-at .result) (a .apart * (l .loop .left - 1)) sum (c .if2 .taken)))))
 
 add-low : tie.Need-add-low Inv-loop μ-loop
-add-low c = omega (arith, c .before .u16-at .ok, c .before .before .before .before .before .before .pre .1)
+add-low c =
+    let s : tie.Start Inv-loop μ-loop = search in
+    omega (arith, c .before .u16-at .ok, s .pre .1)
 
 add-p : tie.Need-add-p Inv-loop μ-loop
-add-p c = omega (arith, c .before .before .before .before .loop .inv .1, c .before .before .if1 .left)
+add-p c =
+    let at-loop : tie.At-loop Inv-loop μ-loop = search in
+    omega (arith, at-loop .loop .inv .1, c .before .before .if1 .left)
 
 sub-left : tie.Need-sub-left Inv-loop μ-loop
 sub-left c = omega (arith, c .before .before .before .loop-test .taken)

@@ -29,7 +29,8 @@ slice-aggregate-turn-2 c =
 
 turn-requires : tie.Need-turn-requires
 turn-requires c κs =
-    let s = c .before .before .before .before in
+    let start : tie.Start = search in
+    let s = start in
     let codes = length-take-le (s .args .n) (s .args .codes .now) (s .pre .1 .1) in
     (codes ∙ sym (length-take-le _ _ (fits s)), rw codes (s .pre .1 .0))
 

@@ -106,8 +106,9 @@ returns-5 c =
 
 sub-t12 : tie.Need-sub-t12
 sub-t12 c =
+    let at-count-of : tie.After-count-of = search in
     let k = pos-w (c .before .before) in
-    le-of-lt (mod-lt (c .before .before .before .before .before .count-of .result) (k .some))
+    le-of-lt (mod-lt (at-count-of .count-of .result) (k .some))
 
 -- the quotient is below 2 ^ 31, and there are at most 4096 tiles
 quotient : (r v t : ℕ) {z : ℤ} → z ≡ pos r → SFits w32 z → t ≤ 4096 → Fits w64 (r / v * t)
@@ -121,19 +122,23 @@ quotient r v t e f h =
 
 mul-t13 : tie.Need-mul-t13
 mul-t13 c =
-    let a = c .before .before .before .before .before .before in
+    let s : tie.Start = search in
+    let a = s in
     quotient _ _ _ (pos-w (c .before .before) .room-is) (a .fits .room) (a .pre)
 
 div-t14 : tie.Need-div-t14
 div-t14 c =
+    let at-count-of2 : tie.After-count-of2 = search in
+    let at-count-of : tie.After-count-of = search in
     let k = pos-w (c .before .before) in
-    let r = c .before .before .before .before .before .count-of .result in
-    let v = c .before .before .before .before .count-of2 .result in
+    let r = at-count-of .count-of .result in
+    let v = at-count-of2 .count-of2 .result in
     mul-pos (one-at-least r v (k .some) (k .less)) (omega (arith, c .if5 .left))
 
 cast-t15 : tie.Need-cast-t15
 cast-t15 c =
-    let a = c .before .before .before .before .before .before in
+    let s : tie.Start = search in
+    let a = s in
     narrow (pos-w (c .before .before) .w-is) (a .fits .w) _ _
 
 returns-6 : tie.Need-returns-6

@@ -51,12 +51,15 @@ sub-left c = omega (arith, c .before .before .before .loop-test .taken)
 
 add-o : tie.Need-add-o Inv-loop μ-loop
 add-o c =
-    let l = c .before .before .before .before in
+    let at-loop : tie.At-loop Inv-loop μ-loop = search in
+    let l = at-loop in
     let a = l .before .before .args in
     omega (arith, l .loop .inv .3, l .before .before .pre .1, more (l .loop .left) (a .by) (c .before .before .before .loop-test .taken))
 
 add-p : tie.Need-add-p Inv-loop μ-loop
-add-p c = omega (arith, c .before .before .before .before .loop .inv .1, c .before .before .if1 .left)
+add-p c =
+    let at-loop : tie.At-loop Inv-loop μ-loop = search in
+    omega (arith, at-loop .loop .inv .1, c .before .before .if1 .left)
 
 loop-less : tie.Need-loop-less Inv-loop μ-loop
 loop-less c = omega (arith, c .before .before .before .loop-test .taken)

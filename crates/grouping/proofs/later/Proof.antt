@@ -52,30 +52,42 @@ returns-2 c =
 
 is-size-requires : tie.Need-is-size-requires Inv-loop μ-loop
 is-size-requires c κs =
+    let s : tie.Start Inv-loop μ-loop = search in
     let u = c .before in
-    (u .before .before .before .before .before .pre .1, omega (arith, u .u16-at .ok))
+    (s .pre .1, omega (arith, u .u16-at .ok))
 
 mul-if3 : tie.Need-mul-if3 Inv-loop μ-loop
-mul-if3 c = omega (arith, c .before .before .before .before .before .before .before .pre .1)
+mul-if3 c =
+    let s : tie.Start Inv-loop μ-loop = search in
+    omega (arith, s .pre .1)
 
 add-if3 : tie.Need-add-if3 Inv-loop μ-loop
-add-if3 c = omega (arith, c .before .before .before .before .before .before .before .pre .1)
+add-if3 c =
+    let s : tie.Start Inv-loop μ-loop = search in
+    omega (arith, s .pre .1)
 
 mul-if3-2 : tie.Need-mul-if3-2 Inv-loop μ-loop
 mul-if3-2 c =
-    let l = c .before .before .before .before .before in
+    let at-loop : tie.At-loop Inv-loop μ-loop = search in
+    let l = at-loop in
     omega (arith, room-fits (l .before .before .args .n) (l .loop .left - 1) (l .before .before .pre .1) (omega (arith, l .loop .inv .0, l .before .before .pre .2)))
 
 add-if3-2 : tie.Need-add-if3-2 Inv-loop μ-loop
 add-if3-2 c =
-    let l = c .before .before .before .before .before in
+    let at-loop : tie.At-loop Inv-loop μ-loop = search in
+    let l = at-loop in
     omega (arith, room-fits (l .before .before .args .n) (l .loop .left - 1) (l .before .before .pre .1) (omega (arith, l .loop .inv .0, l .before .before .pre .2)), c .before .before .u16-at .ok)
 
 add-p : tie.Need-add-p Inv-loop μ-loop
-add-p c = omega (arith, c .before .before .before .before .before .before .loop .inv .1, c .before .before .before .before .if1 .left)
+add-p c =
+    let at-else1 : tie.Else1 Inv-loop μ-loop = search in
+    let at-loop : tie.At-loop Inv-loop μ-loop = search in
+    omega (arith, at-loop .loop .inv .1, at-else1 .if1 .left)
 
 loop-less : tie.Need-loop-less Inv-loop μ-loop
-loop-less c = omega (arith, c .before .before .before .before .before .loop-test .taken)
+loop-less c =
+    let at-in-loop : tie.In-loop Inv-loop μ-loop = search in
+    omega (arith, at-in-loop .loop-test .taken)
 
 loop-again : tie.Need-loop-again Inv-loop μ-loop
 loop-again c =

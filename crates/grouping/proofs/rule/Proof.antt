@@ -19,14 +19,17 @@ returns c = λ lead.
     rule-stops (a .n) (a .bytes .now) (a .at) lead _ (c .before .several .ensures) (c .match .keys2)
 
 cast-t9 : tie.Need-cast-t9
-cast-t9 c = omega (arith, c .before .before .before .before .before .pre .2)
+cast-t9 c =
+    let s : tie.Start = search in
+    omega (arith, s .pre .2)
 
 slice-aggregate-exactly : tie.Need-slice-aggregate-exactly
 slice-aggregate-exactly c = search needs
 
 exactly-requires : tie.Need-exactly-requires
 exactly-requires c κs =
-    let s = c .before .before .before .before in
+    let at-several : tie.After-several = search in
+    let s = at-several in
     let place = took-place _ _ (c .before .before .ligature .given .1) (s .several .ensures) .1 in
     omega (arith, place, s .before .before .pre .0)
 
@@ -34,16 +37,20 @@ enum-known-number : tie.Need-enum-known-number
 enum-known-number c = c .match2 .keys1
 
 returns-2 : tie.Need-returns-2
-returns-2 c = λ lead.
-    let l = c .before .before .before .before in
+returns-2 c =
+    let at-ligature : tie.After-ligature = search in
+    λ lead.
+    let l = at-ligature in
     let s = l .before .before in
     let a = s .before .before .args in
     rule-number (a .n) (a .bytes .now) (a .at) lead (l .ligature .given .0 .0) (l .ligature .given .1) (s .several .ensures) _ (c .before .exactly .ensures) (c .match2 .keys2)
 
 sub-several : tie.Need-sub-several
 sub-several c =
-    let l = c .before .before .before .before .before .before in
-    omega (arith, l .before .before .before .before .pre .1)
+    let s : tie.Start = search in
+    let at-ligature : tie.After-ligature = search in
+    let l = at-ligature in
+    omega (arith, s .pre .1)
 
 several-requires-2 : tie.Need-several-requires-2
 several-requires-2 c κs = took-place _ _ (c .before .number .given .1) (c .before .before .before .exactly .ensures) .1

@@ -38,10 +38,14 @@ returns c = λ lead.
     l .loop .inv .2 lead _ (rules-stops (a .n) (a .bytes .now) (l .loop .p) lead (l .loop .left) (u .before .loop-test .taken) _ (u .rule .ensures lead) (c .match .keys2))
 
 sub-left : tie.Need-sub-left Inv-loop μ-loop
-sub-left c = omega (arith, c .before .before .before .before .loop-test .taken)
+sub-left c =
+    let at-in-loop : tie.In-loop Inv-loop μ-loop = search in
+    omega (arith, at-in-loop .loop-test .taken)
 
 loop-less : tie.Need-loop-less Inv-loop μ-loop
-loop-less c = omega (arith, c .before .before .before .before .loop-test .taken)
+loop-less c =
+    let at-in-loop : tie.In-loop Inv-loop μ-loop = search in
+    omega (arith, at-in-loop .loop-test .taken)
 
 loop-again : tie.Need-loop-again Inv-loop μ-loop
 loop-again c =

@@ -31,8 +31,9 @@ returns c = λ lead.
 
 rules-requires : tie.Need-rules-requires
 rules-requires c κs =
+    let start : tie.Start = search in
     let o = c .before in
-    let s = o .before .before .before .before in
+    let s = start in
     (took-place _ _ (o .offsets .given .1) (o .before .before .evenly .ensures) .1, s .pre .1, s .pre .2)
 
 returns-2 : tie.Need-returns-2

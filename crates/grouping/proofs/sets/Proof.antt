@@ -54,7 +54,9 @@ may-have-requires c κs =
     (s .pre .1, c .u16-at .ok, omega (arith, g .small, g .upto, s .pre .2), omega (arith, g .places, s .pre .3, c .before .before .loop-test .taken))
 
 add-set : tie.Need-add-set Inv-loop μ-loop
-add-set c = omega (arith, c .before .before .before .before .before .loop .inv .within, c .before .before .before .if1 .left)
+add-set c =
+    let at-loop : tie.At-loop Inv-loop μ-loop = search in
+    omega (arith, at-loop .loop .inv .within, c .before .before .before .if1 .left)
 
 set-requires : tie.Need-set-requires Inv-loop μ-loop
 set-requires c κs =
@@ -77,37 +79,49 @@ returns-2 c =
     (u .u16-at .result) (u .u16-at .ensures) (omega (arith, l .loop .inv .within, u .before .if1 .left)) (sym (m .may-have .ensures) ∙ v .before .if2 .taken) _ (v .set .ensures) (c .match .keys2)
 
 mul-o-2 : tie.Need-mul-o-2 Inv-loop μ-loop
-mul-o-2 c = omega (arith, c .before .before .before .before .before .before .before .before .before .before .before .pre .1)
+mul-o-2 c =
+    let s : tie.Start Inv-loop μ-loop = search in
+    omega (arith, s .pre .1)
 
 add-o-2 : tie.Need-add-o-2 Inv-loop μ-loop
-add-o-2 c = omega (arith, c .before .before .before .before .before .before .before .before .before .before .before .pre .1)
+add-o-2 c =
+    let s : tie.Start Inv-loop μ-loop = search in
+    omega (arith, s .pre .1)
 
 mul-o-3 : tie.Need-mul-o-3 Inv-loop μ-loop
 mul-o-3 c =
-    let u = c .before .before .before .before .before .before in
-    let s = u .before .before .before .before .before in
+    let start : tie.Start Inv-loop μ-loop = search in
+    let at-u16-at : tie.After-u16-at Inv-loop μ-loop = search in
+    let u = at-u16-at in
+    let s = start in
     omega (arith, size-fits (s .args .n) (u .u16-at .result) (s .pre .1) (u .u16-at .ok))
 
 add-o-3 : tie.Need-add-o-3 Inv-loop μ-loop
 add-o-3 c =
-    let u = c .before .before .before .before .before .before in
-    let s = u .before .before .before .before .before in
+    let start : tie.Start Inv-loop μ-loop = search in
+    let at-u16-at : tie.After-u16-at Inv-loop μ-loop = search in
+    let u = at-u16-at in
+    let s = start in
     omega (arith, size-fits (s .args .n) (u .u16-at .result) (s .pre .1) (u .u16-at .ok))
 
 add-o-4 : tie.Need-add-o-4 Inv-loop μ-loop
 add-o-4 c =
-    let u = c .before .before .before .before .before .before in
+    let at-u16-at : tie.After-u16-at Inv-loop μ-loop = search in
+    let u = at-u16-at in
     let l = u .before .before .before in
     let s = l .before .before in
     omega (arith, size-fits (s .args .n) (u .u16-at .result) (s .pre .1) (u .u16-at .ok), l .loop .inv .small, l .loop .inv .upto, s .pre .2)
 
 add-next : tie.Need-add-next Inv-loop μ-loop
 add-next c =
-    let l = c .before .before .before .before .before .before .before .before .before in
+    let at-loop : tie.At-loop Inv-loop μ-loop = search in
+    let l = at-loop in
     omega (arith, l .loop .inv .places, l .loop .inv .upto, l .before .before .pre .2)
 
 loop-less : tie.Need-loop-less Inv-loop μ-loop
-loop-less c = omega (arith, c .before .before .before .before .before .before .before .before .loop-test .taken)
+loop-less c =
+    let at-in-loop : tie.In-loop Inv-loop μ-loop = search in
+    omega (arith, at-in-loop .loop-test .taken)
 
 loop-again : tie.Need-loop-again Inv-loop μ-loop
 loop-again c =

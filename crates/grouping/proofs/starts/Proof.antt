@@ -35,12 +35,15 @@ returns-2 c =
     starts-stops (a .n) (a .bytes .now) (a .at) (a .s) (omega (arith, i .if1 .left)) _ (c .before .exactly .ensures) (c .match .keys2)
 
 sub-later : tie.Need-sub-later
-sub-later c = omega (arith, c .before .before .before .before .before .if1 .left)
+sub-later c =
+    let at-else1 : tie.Else1 = search in
+    omega (arith, at-else1 .if1 .left)
 
 later-requires : tie.Need-later-requires
 later-requires c κs =
+    let start : tie.Start = search in
     let f = c .before in
-    let s = f .before .before .before .before .before .before in
+    let s = start in
     (took-place _ _ (f .first .given .1) (f .before .before .exactly .ensures) .1, s .pre .1, omega (arith, s .pre .2))
 
 returns-3 : tie.Need-returns-3

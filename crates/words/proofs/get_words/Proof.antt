@@ -24,16 +24,24 @@ sub-i : tie.Need-sub-i Inv-loop μ-loop
 sub-i c = omega (arith, c .loop-test .taken)
 
 mul-u16-at : tie.Need-mul-u16-at Inv-loop μ-loop
-mul-u16-at c = omega (arith, c .loop-test .taken, c .before .loop .inv .0, c .before .before .before .before .pre .0)
+mul-u16-at c =
+    let s : tie.Start Inv-loop μ-loop = search in
+    omega (arith, c .loop-test .taken, c .before .loop .inv .0, s .pre .0)
 
 add-u16-at : tie.Need-add-u16-at Inv-loop μ-loop
-add-u16-at c = omega (arith, c .loop-test .taken, c .before .loop .inv .0, c .before .before .before .before .pre .0)
+add-u16-at c =
+    let s : tie.Start Inv-loop μ-loop = search in
+    omega (arith, c .loop-test .taken, c .before .loop .inv .0, s .pre .0)
 
 u16-at-requires : tie.Need-u16-at-requires Inv-loop μ-loop
-u16-at-requires c κs = omega (arith, c .loop-test .taken, c .before .loop .inv .0, c .before .before .before .before .pre .0)
+u16-at-requires c κs =
+    let s : tie.Start Inv-loop μ-loop = search in
+    omega (arith, c .loop-test .taken, c .before .loop .inv .0, s .pre .0)
 
 mul-column : tie.Need-mul-column Inv-loop μ-loop
-mul-column c = omega (arith, c .before .loop-test .taken, c .before .before .loop .inv .0, c .before .before .before .before .before .pre .1)
+mul-column c =
+    let s : tie.Start Inv-loop μ-loop = search in
+    omega (arith, c .before .loop-test .taken, c .before .before .loop .inv .0, s .pre .1)
 
 slice-write-column : tie.Need-slice-write-column Inv-loop μ-loop
 slice-write-column c =

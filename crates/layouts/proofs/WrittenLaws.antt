@@ -1,4 +1,4 @@
--- The answers of a writer: one is known by its number and its length (`same-answer`); two that the statement allows are equal, and leave the same area (`one-written`); when each number is given (`uneven-given`, `range-given`, `offset-given`, `room-given`) and when none is
+-- The answers of a writer: one is known by its number and its length (`same-answer`); when each number is given (`uneven-given`, `range-given`, `offset-given`, `room-given`) and when none is
 -- (`Allowed`, `allowed`, `none-given`); a known component number is one of two (`two-or-three`); what a refused call answers and leaves (`written-refused`), and one that wrote all words (`written-all`).
 -- Assumes nothing.
 use mathlib.Core.Path.{_≡_, refl, sym, ap, ap₂, _∙_}
@@ -16,7 +16,7 @@ use Rattle.refusals.specs.declared.Refusal.{Refusal}
 use Rattle.refusals.specs.declared.Verdict.the-variants.{Refused}
 use Rattle.refusals.specs.Numbers.{numberOf}
 use Rattle.refusals.proofs.VerdictLaws.{same-said, refused-number}
-use Rattle.refusals.proofs.LeftLaws.{alike, left-refused, left-done}
+use Rattle.refusals.proofs.LeftLaws.{left-refused, left-done}
 use Rattle.words.specs.Words.{bytes, Wrote}
 use Rattle.words.proofs.WordLaws.{length-bytes, paste-front}
 use Rattle.words.proofs.WroteLaws.{ended}
@@ -24,7 +24,7 @@ use Rattle.layouts.specs.declared.Kind.the-variants.{Ligature}
 use Rattle.layouts.specs.declared.Written.{Written}
 use Rattle.layouts.specs.declared.Written.the-variants.{Bytes}
 use Rattle.layouts.specs.Lookups.{Lookup, width, known, wordsOf, fits}
-use Rattle.layouts.specs.Written.{WriteOutcome, writeOutcome, writeRefusal, writeNumber, lengthSaid, writeAfter, Writing}
+use Rattle.layouts.specs.Written.{writeOutcome, writeRefusal, writeNumber, lengthSaid, Writing}
 
 -- ---- an answer is known by what it says
 pub same-answer : (r u : Written) → writeNumber r ≡ writeNumber u → lengthSaid r ≡ lengthSaid u → r ≡ u
@@ -35,12 +35,6 @@ same-answer (Written.Refused k) (Written.Refused l) e f =
     let v = same-said (Refused k) (Refused l) e in
     let same : k ≡ l = cc in
     ap Written.Refused same
-
--- any two answers that the statement allows are equal, and leave the same area
-pub one-written : (l : Lookup) (area : List ℕ) (r u : Written) (left other : List ℕ) → Writing l area r left → Writing l area u other → (r ≡ u) × (left ≡ other)
-one-written l area r u left other p q =
-    let g = alike _ _ _ _ (writeAfter l area) p q in
-    (same-answer r u (g .0) (ap (λ (x : WriteOutcome). x .count) (g .1)), ap (λ (x : WriteOutcome). x .area) (g .1))
 
 -- ---- when a number is given
 -- "component number other than 2 or 3"

@@ -1,5 +1,5 @@
--- What is known of the call: an answer is known by its number and by what it says was recorded (`same-answer`); two that the statement allows are equal, and leave the same
--- (`one-answer`); a request that is not refused (`Allowed`, `allowed`); what recording gives with a mask and without one (`recorded-masked`, `recorded-unmasked`).
+-- What is known of the call: an answer is known by its number and by what it says was recorded (`same-answer`);
+-- a request that is not refused (`Allowed`, `allowed`); what recording gives with a mask and without one (`recorded-masked`, `recorded-unmasked`).
 -- Assumes nothing.
 use mathlib.Core.Path.{_≡_, sym, ap, ap₂, _∙_}
 use mathlib.Core.Bool.{Bool, false, cond, not, _||_}
@@ -14,10 +14,9 @@ use Rattle.laws.proofs.TestLaws.{neither}
 use Rattle.refusals.specs.Columns.{lineLimit}
 use Rattle.refusals.specs.declared.Verdict.the-variants.{Refused}
 use Rattle.refusals.proofs.VerdictLaws.{same-said, refused-number}
-use Rattle.refusals.proofs.LeftLaws.{alike}
 use Rattle.recording.specs.declared.Answer.{Answer}
 use Rattle.recording.specs.declared.Answer.the-variants.{Recorded}
-use Rattle.recording.specs.Recorded.{RecordRequest, RecordOutcome, recordOutcome, some, newActions, recorded, recordRefusal, recordAfter, numberSaid, recordedSaid, Recording}
+use Rattle.recording.specs.Recorded.{RecordRequest, RecordOutcome, recordOutcome, some, newActions, recorded, recordRefusal, numberSaid, recordedSaid}
 
 -- ---- an answer is known by what it says
 pub same-answer : (r u : Answer) → numberSaid r ≡ numberSaid u → recordedSaid r ≡ recordedSaid u → r ≡ u
@@ -28,12 +27,6 @@ same-answer (Answer.Refused k) (Answer.Refused l) n e =
     let v = same-said (Refused k) (Refused l) n in
     let same : k ≡ l = cc in
     ap Answer.Refused same
-
--- any two answers that the statement allows are equal, and leave the same actions
-pub one-answer : (q : RecordRequest) (actions : List ℕ) (r u : Answer) (left other : List ℕ) → Recording q actions r left → Recording q actions u other → (r ≡ u) × (left ≡ other)
-one-answer q actions r u left other p o =
-    let g = alike _ _ _ _ (recordAfter q actions) p o in
-    (same-answer r u (g .0) (ap (λ (x : RecordOutcome). x .recorded) (g .1)), ap (λ (x : RecordOutcome). x .actions) (g .1))
 
 -- ---- a request that is not refused
 -- of the rows that recording uses, none applies

@@ -1,5 +1,5 @@
--- What is known of the call: an answer is known by its number and by the length that it says (`same-answer`); two that the statement allows are equal, and leave the same (`one-answer`); what a refused call leaves
--- (`refused-left`), and an accepted one (`accepted-left`); a request that is not refused (`evenly`, `Allowed`, `allowed`).
+-- What is known of the call: an answer is known by its number and by the length that it says (`same-answer`); what an accepted call leaves
+-- (`accepted-left`); a request that is not refused (`evenly`, `Allowed`, `allowed`).
 -- Assumes nothing.
 use mathlib.Core.Path.{_≡_, sym, ap}
 use mathlib.Core.Bool.{true, false, not, _&&_, and-eq-true-iff}
@@ -14,14 +14,14 @@ use Rattle.laws.proofs.TestLaws.{neither}
 use Rattle.refusals.specs.Columns.{lineLimit, atMost}
 use Rattle.refusals.specs.declared.Verdict.the-variants.{Refused}
 use Rattle.refusals.proofs.VerdictLaws.{same-said, refused-number}
-use Rattle.refusals.proofs.LeftLaws.{alike, left-number, left-stays, left-accepted}
+use Rattle.refusals.proofs.LeftLaws.{left-number, left-accepted}
 use Rattle.letters.specs.Categories.{Zs}
 use Rattle.letters.specs.Actions.{repeating}
 use Rattle.runs.specs.Records.{Columns}
 use Rattle.copying.specs.Pasted.{EvenLine, Roomy}
 use Rattle.stretching.specs.declared.Answer.{Answer}
 use Rattle.stretching.specs.declared.Answer.the-variants.{Stretched}
-use Rattle.stretching.specs.Stretching.{stretchedLimit, StretchRequest, StretchOutcome, stretchOutcome, newLine, laidOver, unequal, shorter, stretchRefusal, numberSaid, lengthSaid, stretchAfter, Stretching}
+use Rattle.stretching.specs.Stretching.{stretchedLimit, StretchRequest, StretchOutcome, stretchOutcome, newLine, laidOver, unequal, shorter, stretchRefusal, numberSaid, lengthSaid, Stretching}
 
 -- ---- an answer is known by what it says
 pub same-answer : (r u : Answer) → numberSaid r ≡ numberSaid u → lengthSaid r ≡ lengthSaid u → r ≡ u
@@ -33,13 +33,7 @@ same-answer (Answer.Refused k) (Answer.Refused l) e f =
     let same : k ≡ l = cc in
     ap Answer.Refused same
 
--- any two answers that the statement allows are equal, and leave the same output
-pub one-answer : (q : StretchRequest) (output : Columns) (r u : Answer) (left other : Columns) → Stretching q output r left → Stretching q output u other → (r ≡ u) × (left ≡ other)
-one-answer q output r u left other x y =
-    let g = alike _ _ _ _ (stretchAfter stretchedLimit q output) x y in
-    (same-answer r u (g .0) (ap (λ (o : StretchOutcome). o .count) (g .1)), ap (λ (o : StretchOutcome). o .output) (g .1))
-
--- ---- what a call leaves that is refused, and one that is not
+-- ---- what a call leaves
 module _ (q : StretchRequest) (output : Columns) (r : Answer) (left : Columns) (x : Stretching q output r left) where
   abbrev old : StretchOutcome
   old = stretchOutcome 0 output
@@ -49,11 +43,6 @@ module _ (q : StretchRequest) (output : Columns) (r : Answer) (left : Columns) (
 
   pub number-given : numberSaid r ≡ stretchRefusal stretchedLimit q output
   number-given = left-number (stretchRefusal stretchedLimit q output) old new (numberSaid r) (stretchOutcome (lengthSaid r) left) x
-
-  pub refused-left : (numberSaid r ≡ 0 → ⊥) → (left ≡ output) × (lengthSaid r ≡ 0)
-  refused-left d =
-      let g = left-stays (stretchRefusal stretchedLimit q output) old new (numberSaid r) (stretchOutcome (lengthSaid r) left) x d in
-      (ap (λ (o : StretchOutcome). o .output) g, ap (λ (o : StretchOutcome). o .count) g)
 
   pub accepted-left : numberSaid r ≡ 0 → (left ≡ laidOver (newLine q) output) × (lengthSaid r ≡ length (newLine q))
   accepted-left z =

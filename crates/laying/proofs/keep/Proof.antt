@@ -14,8 +14,9 @@ use Rattle.laying.proofs.keep.Tie as tie
 -- both parts are within their columns
 within : (c : tie.After-part2) → (c .before .part .result + c .before .before .before .before .before .before .before .before .before .before .args .s ≤ length (c .before .before .before .before .before .before .before .before .before .before .args .actions .now)) × (c .part2 .result + c .before .before .before .before .before .before .before .before .before .before .args .s ≤ c .before .before .before .before .before .before .before .before .before .before .args .m)
 within c =
-    let a = c .before .before .before .before .before .before .before .before .before .before .args in
-    (rw (c .before .part .ensures) (part-fits (a .rtl) (length (a .actions .now)) (a .k) (a .s) (c .before .before .before .before .before .before .before .before .before .before .pre .inside)), rw (c .part2 .ensures) (part-fits (a .rtl) (a .m) (a .at) (a .s) (c .before .before .before .before .before .before .before .before .before .before .pre .there)))
+    let s : tie.Start = search in
+    let a = s .args in
+    (rw (c .before .part .ensures) (part-fits (a .rtl) (length (a .actions .now)) (a .k) (a .s) (s .pre .inside)), rw (c .part2 .ensures) (part-fits (a .rtl) (a .m) (a .at) (a .s) (s .pre .there)))
 
 part-requires : tie.Need-part-requires
 part-requires c κs = search needs
@@ -25,14 +26,16 @@ part-requires-2 c κs = search needs
 
 copy-records-requires : tie.Need-copy-records-requires
 copy-records-requires c κs =
-    let s = c .before .before .before .before .before .before .before .before .before .before .before .before .before .before .before .before .before .before in
-    let w = within (c .before .before .before .before .before .before .before .before) in
+    let second : tie.After-part2 = search in
+    let s : tie.Start = search in
+    let w = within second in
     record { inside = w .0; even = s .pre .even; room = roomy-less (w .1) (s .pre .room) }
 
 copy-columns-requires : tie.Need-copy-columns-requires
 copy-columns-requires c κs =
-    let s = c .before .before .before .before .before .before .before .before .before .before .before .before .before .before .before .before .before .before in
-    let w = within (c .before .before .before .before .before .before .before .before) in
+    let second : tie.After-part2 = search in
+    let s : tie.Start = search in
+    let w = within second in
     record { inside = w .0; even = s .pre .even; room = roomy-less (w .1) (s .pre .room) }
 
 same-length : tie.Need-same-length
@@ -58,11 +61,14 @@ same-length-7 c = search needs
 
 returns : tie.Need-returns
 returns c =
-    let s = c .before .before .before .before .before .before .before .before .before .before .before .before .before .before .before .before .before .before .before .before .before .before .before .before .before .before .before .before .before .before in
+    let copied : tie.After-copy-records = search in
+    let second : tie.After-part2 = search in
+    let first : tie.After-part = search in
+    let s : tie.Start = search in
     let a = s .args in
-    c .before .before .before .before .before .before .before .before .before .before .before .copy-records .ensures
-    ∙ copied-part (a .rtl) (a .m) (a .at) (a .k) (a .s) (c .before .before .before .before .before .before .before .before .before .before .before .before .before .before .before .before .before .before .before .before .before .part .result) (c .before .before .before .before .before .before .before .before .before .before .before .before .before .before .before .before .before .before .before .before .part2 .result) (columns (a .glyphs .now) (a .widths .now) (a .categories .now) (a .ignorables .now) (a .actions .now) (a .advances .now) (a .offsets .now)) _
-    (s .pre .even) (s .pre .inside) (c .before .before .before .before .before .before .before .before .before .before .before .before .before .before .before .before .before .before .before .before .before .part .ensures) (c .before .before .before .before .before .before .before .before .before .before .before .before .before .before .before .before .before .before .before .before .part2 .ensures)
+    copied .copy-records .ensures
+    ∙ copied-part (a .rtl) (a .m) (a .at) (a .k) (a .s) (first .part .result) (second .part2 .result) (columns (a .glyphs .now) (a .widths .now) (a .categories .now) (a .ignorables .now) (a .actions .now) (a .advances .now) (a .offsets .now)) _
+    (s .pre .even) (s .pre .inside) (first .part .ensures) (second .part2 .ensures)
 
 same-length-8 : tie.Need-same-length-8
 same-length-8 c = search needs
@@ -87,11 +93,14 @@ same-length-14 c = search needs
 
 returns-2 : tie.Need-returns-2
 returns-2 c =
-    let s = c .before .before .before .before .before .before .before .before .before .before .before .before .before .before .before .before .before .before .before .before .before .before .before .before .before .before .before .before .before .before in
+    let copied : tie.After-copy-columns = search in
+    let second : tie.After-part2 = search in
+    let first : tie.After-part = search in
+    let s : tie.Start = search in
     let a = s .args in
-    c .before .before .before .before .before .before .before .before .before .before .before .copy-columns .ensures
-    ∙ copied-part (a .rtl) (a .m) (a .at) (a .k) (a .s) (c .before .before .before .before .before .before .before .before .before .before .before .before .before .before .before .before .before .before .before .before .before .part .result) (c .before .before .before .before .before .before .before .before .before .before .before .before .before .before .before .before .before .before .before .before .part2 .result) (columns (a .glyphs .now) (a .widths .now) (a .categories .now) (a .ignorables .now) (a .actions .now) (a .advances .now) (a .offsets .now)) _
-    (s .pre .even) (s .pre .inside) (c .before .before .before .before .before .before .before .before .before .before .before .before .before .before .before .before .before .before .before .before .before .part .ensures) (c .before .before .before .before .before .before .before .before .before .before .before .before .before .before .before .before .before .before .before .before .part2 .ensures)
+    copied .copy-columns .ensures
+    ∙ copied-part (a .rtl) (a .m) (a .at) (a .k) (a .s) (first .part .result) (second .part2 .result) (columns (a .glyphs .now) (a .widths .now) (a .categories .now) (a .ignorables .now) (a .actions .now) (a .advances .now) (a .offsets .now)) _
+    (s .pre .even) (s .pre .inside) (first .part .ensures) (second .part2 .ensures)
 
 pub keep-spec : {M : Type 1} → statement M
 keep-spec =

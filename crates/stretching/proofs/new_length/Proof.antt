@@ -12,8 +12,10 @@ stretched-length-requires : tie.Need-stretched-length-requires
 stretched-length-requires c κs = search needs
 
 returns : tie.Need-returns
-returns c = λ l lent.
-    rw (c .before .if1 .taken) (c .stretched-length .ensures l lent ∙ sym (length-recorded (c .before .before .before .before .before .args .rtl) l))
+returns c =
+    let s : tie.Start = search in
+    λ l lent.
+    rw (c .before .if1 .taken) (c .stretched-length .ensures l lent ∙ sym (length-recorded (s .args .rtl) l))
 
 returns-2 : tie.Need-returns-2
 returns-2 c = λ l lent. rw (c .if1 .left) (ap length (sym (lent .hasActions)) ∙ sym (length-line l))

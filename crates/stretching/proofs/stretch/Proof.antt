@@ -31,28 +31,38 @@ old s = stretchOutcome 0 (output s)
 abbrev new : tie.Start → StretchOutcome
 new s = stretchOutcome (length (newLine (asked s))) (laidOver (newLine (asked s)) (output s))
 
+-- the way back to the start, for what is said of places behind the tests
+abbrev start : tie.After-judge → tie.Start
+start c = search
+
 -- what the tests answer
 abbrev answered : Answer → Left ℕ
 answered r = After (numberSaid r) (lengthSaid r)
 
-found : (c : tie.After-judge) → let s = c .before .before .before .before .before .before .before .before .before in answered (c .judge .result) ≡ judged stretchedLimit (asked s) (shorter (length (newLine (asked s))) (output s))
+found : (c : tie.After-judge) → let s = start c in answered (c .judge .result) ≡ judged stretchedLimit (asked s) (shorter (length (newLine (asked s))) (output s))
 found c = c .judge .ensures
 
 -- where they accept: the length that is said is that of the new line, and nothing refuses the request
 abbrev said : tie.After-answer2 → ℕ
 said c = c .answer2 .given .0 .0
 
-found-accepted : (c : tie.After-answer2) → let s = c .before .before .before .before .before .before .before .before .before .before .before in After 0 (said c) ≡ judged stretchedLimit (asked s) (shorter (length (newLine (asked s))) (output s))
+found-accepted : (c : tie.After-answer2) → let s = start (c .before .before) in After 0 (said c) ≡ judged stretchedLimit (asked s) (shorter (length (newLine (asked s))) (output s))
 found-accepted c = ap answered (sym (c .answer2 .given .1)) ∙ found (c .before .before)
 
-length-said : (c : tie.After-answer2) → said c ≡ length (newLine (asked (c .before .before .before .before .before .before .before .before .before .before .before)))
-length-said c = let s = c .before .before .before .before .before .before .before .before .before .before .before in judged-length (asked s) (output s) (said c) (found-accepted c)
+length-said : (c : tie.After-answer2) → said c ≡ length (newLine (asked (start (c .before .before))))
+length-said c =
+    let s = start (c .before .before) in
+    judged-length (asked s) (output s) (said c) (found-accepted c)
 
-accepted : (c : tie.After-answer2) → let s = c .before .before .before .before .before .before .before .before .before .before .before in 0 ≡ stretchRefusal stretchedLimit (asked s) (output s)
-accepted c = let s = c .before .before .before .before .before .before .before .before .before .before .before in judged-number (asked s) (output s) 0 (said c) (found-accepted c)
+accepted : (c : tie.After-answer2) → let s = start (c .before .before) in 0 ≡ stretchRefusal stretchedLimit (asked s) (output s)
+accepted c =
+    let s = start (c .before .before) in
+    judged-number (asked s) (output s) 0 (said c) (found-accepted c)
 
-given : (c : tie.After-answer2) → let s = c .before .before .before .before .before .before .before .before .before .before .before in Allowed (asked s) (output s)
-given c = let s = c .before .before .before .before .before .before .before .before .before .before .before in allowed (asked s) (output s) (sym (accepted c))
+given : (c : tie.After-answer2) → let s = start (c .before .before) in Allowed (asked s) (output s)
+given c =
+    let s = start (c .before .before) in
+    allowed (asked s) (output s) (sym (accepted c))
 
 judge-requires : tie.Need-judge-requires
 judge-requires c κs = search needs
@@ -65,30 +75,32 @@ enum-known-answer-2 c = search needs
 
 write-requires : tie.Need-write-requires
 write-requires c κs =
-    let s = c .before .before .before .before .before .before .before .before .before .before .before .before .before .before .before .before .before .before .before .before in
-    let t = c .before .before .before .before .before .before .before .before .before in
+    let then1 : tie.Then1 = search in
+    let t : tie.After-answer2 = search in
+    let s : tie.Start = search in
     let a = given t in
     let long : said t ≡ length (newLine (asked s)) = length-said t in
     record {
       few = a .few;
       known = a .known;
       even = a .even;
-      long = long ∙ (rw (c .before .before .before .before .before .before .before .if1 .taken) (length-recorded (s .args .rtl) (asked s .line)));
+      long = long ∙ (rw (then1 .if1 .taken) (length-recorded (s .args .rtl) (asked s .line)));
       room = rw long (a .room);
     }
 
 keep-requires : tie.Need-keep-requires
 keep-requires c κs =
-    let s = c .before .before .before .before .before .before .before .before .before .before .before .before .before .before .before .before .before .before .before .before in
-    let t = c .before .before .before .before .before .before .before .before .before in
+    let else1 : tie.Else1 = search in
+    let t : tie.After-answer2 = search in
+    let s : tie.Start = search in
     let a = given t in
     let long : said t ≡ length (newLine (asked s)) = length-said t in
-    let whole : said t ≡ length (s .args .actions .now) = long ∙ (rw (c .before .before .before .before .before .before .before .if1 .left) (length-line (asked s .line))) in
+    let whole : said t ≡ length (s .args .actions .now) = long ∙ (rw (else1 .if1 .left) (length-line (asked s .line))) in
     record { inside = omega (arith, whole); there = omega arith; even = a .even; room = rw long (a .room) }
 
 returns : tie.Need-returns
 returns c =
-    let s = c .before .before .before .before .before .before .before .before .before .before .before .before in
+    let s : tie.Start = search in
     let k = c .before .answer .given .0 .0 in
     left-refused _ (old s) (new s) _ (judged-number (asked s) (output s) (numberOf k) 0 (ap answered (sym (c .before .answer .given .1)) ∙ found (c .before .before .before))) (refused-number k)
 
@@ -115,12 +127,14 @@ same-length-7 c = search needs
 
 returns-2 : tie.Need-returns-2
 returns-2 c =
-    let s = c .before .before .before .before .before .before .before .before .before .before .before .before .before .before .before .before .before .before .before .before .before .before .before .before .before .before .before .before .before .before .before .before in
-    let t = c .before .before .before .before .before .before .before .before .before .before .before .before .before .before .before .before .before .before .before .before .before in
-    let long = length-said t in
-    let laid-there = c .before .before .before .before .before .before .before .before .before .before .before .write .ensures ∙ work-laid (s .args .rtl) (said t) (asked s .line) (output s) (long ∙ (rw (c .before .before .before .before .before .before .before .before .before .before .before .before .before .before .before .before .before .before .before .if1 .taken) (length-recorded (s .args .rtl) (asked s .line)))) in
+    let wrote : tie.After-write = search in
+    let then1 : tie.Then1 = search in
+    let t : tie.After-answer2 = search in
+    let s = t .before .before .before .before .before .before .before .before .before .before .before in
+    let long : said t ≡ length (newLine (asked s)) = length-said t in
+    let laid-there = wrote .write .ensures ∙ work-laid (s .args .rtl) (said t) (asked s .line) (output s) (long ∙ (rw (then1 .if1 .taken) (length-recorded (s .args .rtl) (asked s .line)))) in
     left-done _ (old s) (new s) _ _ (accepted t) refl
-    (ap₂ stretchOutcome long (laid-there ∙ (rw (c .before .before .before .before .before .before .before .before .before .before .before .before .before .before .before .before .before .before .before .if1 .taken))))
+    (ap₂ stretchOutcome long (laid-there ∙ (rw (then1 .if1 .taken))))
 
 same-length-8 : tie.Need-same-length-8
 same-length-8 c = search needs
@@ -145,12 +159,14 @@ same-length-14 c = search needs
 
 returns-3 : tie.Need-returns-3
 returns-3 c =
-    let s = c .before .before .before .before .before .before .before .before .before .before .before .before .before .before .before .before .before .before .before .before .before .before .before .before .before .before .before .before .before .before .before .before in
-    let t = c .before .before .before .before .before .before .before .before .before .before .before .before .before .before .before .before .before .before .before .before .before in
-    let long = length-said t in
-    let laid-there = c .before .before .before .before .before .before .before .before .before .before .before .keep .ensures ∙ line-laid (s .args .rtl) (said t) (asked s .line) (output s) (long ∙ (rw (c .before .before .before .before .before .before .before .before .before .before .before .before .before .before .before .before .before .before .before .if1 .left) (length-line (asked s .line)))) in
+    let kept : tie.After-keep = search in
+    let else1 : tie.Else1 = search in
+    let t : tie.After-answer2 = search in
+    let s = t .before .before .before .before .before .before .before .before .before .before .before in
+    let long : said t ≡ length (newLine (asked s)) = length-said t in
+    let laid-there = kept .keep .ensures ∙ line-laid (s .args .rtl) (said t) (asked s .line) (output s) (long ∙ (rw (else1 .if1 .left) (length-line (asked s .line)))) in
     left-done _ (old s) (new s) _ _ (accepted t) refl
-    (ap₂ stretchOutcome long (laid-there ∙ (rw (c .before .before .before .before .before .before .before .before .before .before .before .before .before .before .before .before .before .before .before .if1 .left))))
+    (ap₂ stretchOutcome long (laid-there ∙ (rw (else1 .if1 .left))))
 
 pub stretch-spec : {M : Type 1} → statement M
 stretch-spec =

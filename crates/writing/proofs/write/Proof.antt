@@ -39,67 +39,94 @@ even-tiles s =
     record { tileGlyphs = e .evenGlyphs; tileWidths = e .evenWidths; tileCategories = e .evenCategories; tileIgnorables = e .evenIgnorables }
 
 loop-holds : tie.Need-loop-holds Inv-loop μ-loop
-loop-holds c = let s = c .before .before .before .before .before .before .before .before in writing-starts _ _ _ _ (s .pre .long)
+loop-holds c =
+    let s : tie.Start Inv-loop μ-loop = search in
+    writing-starts _ _ _ _ (s .pre .long)
 
 next-run-requires : tie.Need-next-run-requires Inv-loop μ-loop
-next-run-requires c κs = (c .before .loop .inv .fits, c .before .before .before .before .before .before .before .before .before .before .pre .known)
+next-run-requires c κs =
+    let s : tie.Start Inv-loop μ-loop = search in
+    (c .before .loop .inv .fits, s .pre .known)
 
 sub-s : tie.Need-sub-s Inv-loop μ-loop
 sub-s c =
+    let s : tie.Start Inv-loop μ-loop = search in
     let t = c .before .before in
-    let s = c .before .before .before .before .before .before .before .before .before .before .before in
     let a = s .args in
     omega (arith, c .next-run .ensures (columns (a .glyphs .now) (a .widths .now) (a .categories .now) (a .ignorables .now) (a .actions .now) (a .advances .now) (a .offsets .now)) refl)
 
 keep-requires : tie.Need-keep-requires Inv-loop μ-loop
 keep-requires c κs =
-    let t = c .before .before .before .before .before .before .before .before .before in
-    let s = c .before .before .before .before .before .before .before .before .before .before .before .before .before .before .before .before .before .before in
+    let found : tie.After-next-run Inv-loop μ-loop = search in
+    let t : tie.At-loop Inv-loop μ-loop = search in
+    let s : tie.Start Inv-loop μ-loop = search in
     let a = s .args in
-    let fit = kept-fits (a .rtl) (a .m) (columns (a .glyphs .now) (a .widths .now) (a .categories .now) (a .ignorables .now) (a .actions .now) (a .advances .now) (a .offsets .now)) _ _ (t .loop .k) (t .loop .at) _ (t .loop .inv) (c .before .before .before .before .before .before .before .next-run .result) (c .before .before .before .before .before .before .before .next-run .ensures (columns (a .glyphs .now) (a .widths .now) (a .categories .now) (a .ignorables .now) (a .actions .now) (a .advances .now) (a .offsets .now)) refl) in
+    let fit = kept-fits (a .rtl) (a .m) (columns (a .glyphs .now) (a .widths .now) (a .categories .now) (a .ignorables .now) (a .actions .now) (a .advances .now) (a .offsets .now)) _ _ (t .loop .k) (t .loop .at) _ (t .loop .inv) (found .next-run .result) (found .next-run .ensures (columns (a .glyphs .now) (a .widths .now) (a .categories .now) (a .ignorables .now) (a .actions .now) (a .advances .now) (a .offsets .now)) refl) in
     record { inside = fit .0; there = fit .1; even = s .pre .even; room = roomy-same (t .loop .inv .same) (s .pre .room) }
 
 measured-at-requires : tie.Need-measured-at-requires Inv-loop μ-loop
 measured-at-requires c κs =
-    let t = c .before .before .before .before .before .before .before .before .before .before .before .before .before .before .before .before .before .before .before .before .before in
-    let s = c .before .before .before .before .before .before .before .before .before .before .before .before .before .before .before .before .before .before .before .before .before .before .before .before .before .before .before .before .before .before in
+    let found : tie.After-next-run Inv-loop μ-loop = search in
+    let t : tie.At-loop Inv-loop μ-loop = search in
+    let s : tie.Start Inv-loop μ-loop = search in
     let a = s .args in
-    (next-fits (a .rtl) (a .m) (columns (a .glyphs .now) (a .widths .now) (a .categories .now) (a .ignorables .now) (a .actions .now) (a .advances .now) (a .offsets .now)) _ _ (t .loop .k) (t .loop .at) _ (t .loop .inv) (c .before .before .before .before .before .before .before .before .before .before .before .before .before .before .before .before .before .before .before .next-run .result) (c .before .before .before .before .before .before .before .before .before .before .before .before .before .before .before .before .before .before .before .next-run .ensures (columns (a .glyphs .now) (a .widths .now) (a .categories .now) (a .ignorables .now) (a .actions .now) (a .advances .now) (a .offsets .now)) refl), (s .pre .few, even-sums s))
+    (next-fits (a .rtl) (a .m) (columns (a .glyphs .now) (a .widths .now) (a .categories .now) (a .ignorables .now) (a .actions .now) (a .advances .now) (a .offsets .now)) _ _ (t .loop .k) (t .loop .at) _ (t .loop .inv) (found .next-run .result) (found .next-run .ensures (columns (a .glyphs .now) (a .widths .now) (a .categories .now) (a .ignorables .now) (a .actions .now) (a .advances .now) (a .offsets .now)) refl), (s .pre .few, even-sums s))
 
 add-place-run : tie.Need-add-place-run Inv-loop μ-loop
 add-place-run c =
-    let t = c .before .before .before .before .before .before .before .before .before .before .before .before .before .before .before .before .before .before .before .before .before .before in
-    let s = c .before .before .before .before .before .before .before .before .before .before .before .before .before .before .before .before .before .before .before .before .before .before .before .before .before .before .before .before .before .before .before in
+    let found : tie.After-next-run Inv-loop μ-loop = search in
+    let t : tie.At-loop Inv-loop μ-loop = search in
+    let s : tie.Start Inv-loop μ-loop = search in
     let a = s .args in
-    record { fits = omega (arith, kept-fits (a .rtl) (a .m) (columns (a .glyphs .now) (a .widths .now) (a .categories .now) (a .ignorables .now) (a .actions .now) (a .advances .now) (a .offsets .now)) _ _ (t .loop .k) (t .loop .at) _ (t .loop .inv) (c .before .before .before .before .before .before .before .before .before .before .before .before .before .before .before .before .before .before .before .before .next-run .result) (c .before .before .before .before .before .before .before .before .before .before .before .before .before .before .before .before .before .before .before .before .next-run .ensures (columns (a .glyphs .now) (a .widths .now) (a .categories .now) (a .ignorables .now) (a .actions .now) (a .advances .now) (a .offsets .now)) refl) .1, s .fits .m) }
+    record { fits = omega (arith, kept-fits (a .rtl) (a .m) (columns (a .glyphs .now) (a .widths .now) (a .categories .now) (a .ignorables .now) (a .actions .now) (a .advances .now) (a .offsets .now)) _ _ (t .loop .k) (t .loop .at) _ (t .loop .inv) (found .next-run .result) (found .next-run .ensures (columns (a .glyphs .now) (a .widths .now) (a .categories .now) (a .ignorables .now) (a .actions .now) (a .advances .now) (a .offsets .now)) refl) .1, s .fits .m) }
+
+-- the ways back, for places that are far behind
+abbrev before-measuring : tie.After-measured-at Inv-loop μ-loop → tie.After-keep Inv-loop μ-loop
+before-measuring c = search
+
+abbrev before-keeping : tie.After-measured-at Inv-loop μ-loop → tie.After-next-run Inv-loop μ-loop
+before-keeping c = search
+
+abbrev start : tie.After-next-run Inv-loop μ-loop → tie.Start Inv-loop μ-loop
+start c = search
 
 place-run-requires : tie.Need-place-run-requires Inv-loop μ-loop
 place-run-requires c κs =
-    let t = c .before .before .before .before .before .before .before .before .before .before .before .before .before .before .before .before .before .before .before .before .before .before .before .before .before .before .before .before .before in
-    let s = c .before .before .before .before .before .before .before .before .before .before .before .before .before .before .before .before .before .before .before .before .before .before .before .before .before .before .before .before .before .before .before .before .before .before .before .before .before .before in
+    let measured : tie.After-measured-at Inv-loop μ-loop = search in
+    let kept = before-measuring measured in
+    let found = before-keeping measured in
+    let t = found .before .before in
+    let s = start found in
     let a = s .args in
-    let fit = past-fits (a .rtl) (a .m) (columns (a .glyphs .now) (a .widths .now) (a .categories .now) (a .ignorables .now) (a .actions .now) (a .advances .now) (a .offsets .now)) _ _ (t .loop .k) (t .loop .at) _ (t .loop .inv) (c .before .before .before .before .before .before .before .before .before .before .before .before .before .before .before .before .before .before .before .before .before .before .before .before .before .before .before .next-run .result) (c .before .before .before .before .before .before .before .before .before .before .before .before .before .before .before .before .before .before .before .before .before .before .before .before .before .before .before .next-run .ensures (columns (a .glyphs .now) (a .widths .now) (a .categories .now) (a .ignorables .now) (a .actions .now) (a .advances .now) (a .offsets .now)) refl) (c .before .before .before .before .before .before .before .measured-at .result) (c .before .before .before .before .before .before .before .measured-at .ensures (columns (a .glyphs .now) (a .widths .now) (a .categories .now) (a .ignorables .now) (a .actions .now) (a .advances .now) (a .offsets .now)) (lent-all s)) in
+    let fit = past-fits (a .rtl) (a .m) (columns (a .glyphs .now) (a .widths .now) (a .categories .now) (a .ignorables .now) (a .actions .now) (a .advances .now) (a .offsets .now)) _ _ (t .loop .k) (t .loop .at) _ (t .loop .inv) (found .next-run .result) (found .next-run .ensures (columns (a .glyphs .now) (a .widths .now) (a .categories .now) (a .ignorables .now) (a .actions .now) (a .advances .now) (a .offsets .now)) refl) (measured .measured-at .result) (measured .measured-at .ensures (columns (a .glyphs .now) (a .widths .now) (a .categories .now) (a .ignorables .now) (a .actions .now) (a .advances .now) (a .offsets .now)) (lent-all s)) in
     record {
       begun = fit .0;
       inside = fit .1;
       even = even-tiles s;
-      there = run-has-room (a .rtl) (a .m) (columns (a .glyphs .now) (a .widths .now) (a .categories .now) (a .ignorables .now) (a .actions .now) (a .advances .now) (a .offsets .now)) _ _ (t .loop .k) (t .loop .at) _ (t .loop .inv) (c .before .before .before .before .before .before .before .before .before .before .before .before .before .before .before .before .before .before .before .before .before .before .before .before .before .before .before .next-run .result) (c .before .before .before .before .before .before .before .before .before .before .before .before .before .before .before .before .before .before .before .before .before .before .before .before .before .before .before .next-run .ensures (columns (a .glyphs .now) (a .widths .now) (a .categories .now) (a .ignorables .now) (a .actions .now) (a .advances .now) (a .offsets .now)) refl) (c .before .before .before .before .before .before .before .measured-at .result) (c .before .before .before .before .before .before .before .measured-at .ensures (columns (a .glyphs .now) (a .widths .now) (a .categories .now) (a .ignorables .now) (a .actions .now) (a .advances .now) (a .offsets .now)) (lent-all s));
-      room = room-kept (a .rtl) (a .m) (columns (a .glyphs .now) (a .widths .now) (a .categories .now) (a .ignorables .now) (a .actions .now) (a .advances .now) (a .offsets .now)) _ _ (t .loop .k) (t .loop .at) _ (t .loop .inv) (c .before .before .before .before .before .before .before .before .before .before .before .before .before .before .before .before .before .before .before .before .before .before .before .before .before .before .before .next-run .result) (c .before .before .before .before .before .before .before .before .before .before .before .before .before .before .before .before .before .before .before .before .before .before .before .before .before .before .before .next-run .ensures (columns (a .glyphs .now) (a .widths .now) (a .categories .now) (a .ignorables .now) (a .actions .now) (a .advances .now) (a .offsets .now)) refl) (s .pre .room) _ (c .before .before .before .before .before .before .before .before .before .before .before .before .before .before .before .before .before .before .before .keep .ensures);
+      there = run-has-room (a .rtl) (a .m) (columns (a .glyphs .now) (a .widths .now) (a .categories .now) (a .ignorables .now) (a .actions .now) (a .advances .now) (a .offsets .now)) _ _ (t .loop .k) (t .loop .at) _ (t .loop .inv) (found .next-run .result) (found .next-run .ensures (columns (a .glyphs .now) (a .widths .now) (a .categories .now) (a .ignorables .now) (a .actions .now) (a .advances .now) (a .offsets .now)) refl) (measured .measured-at .result) (measured .measured-at .ensures (columns (a .glyphs .now) (a .widths .now) (a .categories .now) (a .ignorables .now) (a .actions .now) (a .advances .now) (a .offsets .now)) (lent-all s));
+      room = room-kept (a .rtl) (a .m) (columns (a .glyphs .now) (a .widths .now) (a .categories .now) (a .ignorables .now) (a .actions .now) (a .advances .now) (a .offsets .now)) _ _ (t .loop .k) (t .loop .at) _ (t .loop .inv) (found .next-run .result) (found .next-run .ensures (columns (a .glyphs .now) (a .widths .now) (a .categories .now) (a .ignorables .now) (a .actions .now) (a .advances .now) (a .offsets .now)) refl) (s .pre .room) _ (kept .keep .ensures);
     }
 
 loop-less : tie.Need-loop-less Inv-loop μ-loop
 loop-less c =
-    let t = c .before .before .before .before .before .before .before .before .before .before .before .before .before .before .before .before .before .before .before .before .before .before .before .before .before .before .before .before .before .before .before .before .before .before .before .before .before .before .before .before .before in
-    let s = c .before .before .before .before .before .before .before .before .before .before .before .before .before .before .before .before .before .before .before .before .before .before .before .before .before .before .before .before .before .before .before .before .before .before .before .before .before .before .before .before .before .before .before .before .before .before .before .before .before .before in
+    let measured : tie.After-measured-at Inv-loop μ-loop = search in
+    let found = before-keeping measured in
+    let in-loop = found .before in
+    let t = found .before .before in
+    let s = start found in
     let a = s .args in
-    omega (arith, past-above (a .rtl) (a .m) (columns (a .glyphs .now) (a .widths .now) (a .categories .now) (a .ignorables .now) (a .actions .now) (a .advances .now) (a .offsets .now)) _ _ (t .loop .k) (t .loop .at) _ (t .loop .inv) (c .before .before .before .before .before .before .before .before .before .before .before .before .before .before .before .before .before .before .before .before .before .before .before .before .before .before .before .before .before .before .before .before .before .before .before .before .before .before .before .next-run .result) (c .before .before .before .before .before .before .before .before .before .before .before .before .before .before .before .before .before .before .before .before .before .before .before .before .before .before .before .before .before .before .before .before .before .before .before .before .before .before .before .next-run .ensures (columns (a .glyphs .now) (a .widths .now) (a .categories .now) (a .ignorables .now) (a .actions .now) (a .advances .now) (a .offsets .now)) refl) (c .before .before .before .before .before .before .before .before .before .before .before .before .before .before .before .before .before .before .before .measured-at .result) (c .before .before .before .before .before .before .before .before .before .before .before .before .before .before .before .before .before .before .before .measured-at .ensures (columns (a .glyphs .now) (a .widths .now) (a .categories .now) (a .ignorables .now) (a .actions .now) (a .advances .now) (a .offsets .now)) (lent-all s)) (c .before .before .before .before .before .before .before .before .before .before .before .before .before .before .before .before .before .before .before .before .before .before .before .before .before .before .before .before .before .before .before .before .before .before .before .before .before .before .before .before .loop-test .taken), past-fits (a .rtl) (a .m) (columns (a .glyphs .now) (a .widths .now) (a .categories .now) (a .ignorables .now) (a .actions .now) (a .advances .now) (a .offsets .now)) _ _ (t .loop .k) (t .loop .at) _ (t .loop .inv) (c .before .before .before .before .before .before .before .before .before .before .before .before .before .before .before .before .before .before .before .before .before .before .before .before .before .before .before .before .before .before .before .before .before .before .before .before .before .before .before .next-run .result) (c .before .before .before .before .before .before .before .before .before .before .before .before .before .before .before .before .before .before .before .before .before .before .before .before .before .before .before .before .before .before .before .before .before .before .before .before .before .before .before .next-run .ensures (columns (a .glyphs .now) (a .widths .now) (a .categories .now) (a .ignorables .now) (a .actions .now) (a .advances .now) (a .offsets .now)) refl) (c .before .before .before .before .before .before .before .before .before .before .before .before .before .before .before .before .before .before .before .measured-at .result) (c .before .before .before .before .before .before .before .before .before .before .before .before .before .before .before .before .before .before .before .measured-at .ensures (columns (a .glyphs .now) (a .widths .now) (a .categories .now) (a .ignorables .now) (a .actions .now) (a .advances .now) (a .offsets .now)) (lent-all s)) .1)
+    omega (arith, past-above (a .rtl) (a .m) (columns (a .glyphs .now) (a .widths .now) (a .categories .now) (a .ignorables .now) (a .actions .now) (a .advances .now) (a .offsets .now)) _ _ (t .loop .k) (t .loop .at) _ (t .loop .inv) (found .next-run .result) (found .next-run .ensures (columns (a .glyphs .now) (a .widths .now) (a .categories .now) (a .ignorables .now) (a .actions .now) (a .advances .now) (a .offsets .now)) refl) (measured .measured-at .result) (measured .measured-at .ensures (columns (a .glyphs .now) (a .widths .now) (a .categories .now) (a .ignorables .now) (a .actions .now) (a .advances .now) (a .offsets .now)) (lent-all s)) (in-loop .loop-test .taken), past-fits (a .rtl) (a .m) (columns (a .glyphs .now) (a .widths .now) (a .categories .now) (a .ignorables .now) (a .actions .now) (a .advances .now) (a .offsets .now)) _ _ (t .loop .k) (t .loop .at) _ (t .loop .inv) (found .next-run .result) (found .next-run .ensures (columns (a .glyphs .now) (a .widths .now) (a .categories .now) (a .ignorables .now) (a .actions .now) (a .advances .now) (a .offsets .now)) refl) (measured .measured-at .result) (measured .measured-at .ensures (columns (a .glyphs .now) (a .widths .now) (a .categories .now) (a .ignorables .now) (a .actions .now) (a .advances .now) (a .offsets .now)) (lent-all s)) .1)
 
 loop-again : tie.Need-loop-again Inv-loop μ-loop
 loop-again c =
-    let t = c .before .before .before .before .before .before .before .before .before .before .before .before .before .before .before .before .before .before .before .before .before .before .before .before .before .before .before .before .before .before .before .before .before .before .before .before .before .before .before .before .before in
-    let s = c .before .before .before .before .before .before .before .before .before .before .before .before .before .before .before .before .before .before .before .before .before .before .before .before .before .before .before .before .before .before .before .before .before .before .before .before .before .before .before .before .before .before .before .before .before .before .before .before .before .before in
+    let placed : tie.After-place-run Inv-loop μ-loop = search in
+    let measured : tie.After-measured-at Inv-loop μ-loop = search in
+    let kept = before-measuring measured in
+    let found = before-keeping measured in
+    let t = found .before .before in
+    let s = start found in
     let a = s .args in
-    writing-next (a .rtl) (a .m) (columns (a .glyphs .now) (a .widths .now) (a .categories .now) (a .ignorables .now) (a .actions .now) (a .advances .now) (a .offsets .now)) _ _ (t .loop .k) (t .loop .at) _ (t .loop .inv) (c .before .before .before .before .before .before .before .before .before .before .before .before .before .before .before .before .before .before .before .before .before .before .before .before .before .before .before .before .before .before .before .before .before .before .before .before .before .before .before .next-run .result) (c .before .before .before .before .before .before .before .before .before .before .before .before .before .before .before .before .before .before .before .before .before .before .before .before .before .before .before .before .before .before .before .before .before .before .before .before .before .before .before .next-run .ensures (columns (a .glyphs .now) (a .widths .now) (a .categories .now) (a .ignorables .now) (a .actions .now) (a .advances .now) (a .offsets .now)) refl) (c .before .before .before .before .before .before .before .before .before .before .before .before .before .before .before .before .before .before .before .measured-at .result) (c .before .before .before .before .before .before .before .before .before .before .before .before .before .before .before .before .before .before .before .measured-at .ensures (columns (a .glyphs .now) (a .widths .now) (a .categories .now) (a .ignorables .now) (a .actions .now) (a .advances .now) (a .offsets .now)) (lent-all s)) (s .pre .room) _ _ (c .before .before .before .before .before .before .before .before .before .before .before .before .before .before .before .before .before .before .before .before .before .before .before .before .before .before .before .before .before .before .before .keep .ensures) (c .before .before .before .before .before .before .before .before .before .before .before .place-run .ensures .piecesLaid) (c .before .before .before .before .before .before .before .before .before .before .before .place-run .result) (c .before .before .before .before .before .before .before .before .before .before .before .place-run .ensures .comesThen)
+    writing-next (a .rtl) (a .m) (columns (a .glyphs .now) (a .widths .now) (a .categories .now) (a .ignorables .now) (a .actions .now) (a .advances .now) (a .offsets .now)) _ _ (t .loop .k) (t .loop .at) _ (t .loop .inv) (found .next-run .result) (found .next-run .ensures (columns (a .glyphs .now) (a .widths .now) (a .categories .now) (a .ignorables .now) (a .actions .now) (a .advances .now) (a .offsets .now)) refl) (measured .measured-at .result) (measured .measured-at .ensures (columns (a .glyphs .now) (a .widths .now) (a .categories .now) (a .ignorables .now) (a .actions .now) (a .advances .now) (a .offsets .now)) (lent-all s)) (s .pre .room) _ _ (kept .keep .ensures) (placed .place-run .ensures .piecesLaid) (placed .place-run .result) (placed .place-run .ensures .comesThen)
 
 same-length : tie.Need-same-length Inv-loop μ-loop
 same-length c = c .before .loop .inv .same .sameGlyphs
@@ -124,8 +151,8 @@ same-length-7 c = c .before .loop .inv .same .sameOffsets
 
 returns : tie.Need-returns Inv-loop μ-loop
 returns c =
+    let s : tie.Start Inv-loop μ-loop = search in
     let t = c .before in
-    let s = c .before .before .before .before .before .before .before .before .before .before in
     let a = s .args in
     writing-ends (a .rtl) (a .m) (columns (a .glyphs .now) (a .widths .now) (a .categories .now) (a .ignorables .now) (a .actions .now) (a .advances .now) (a .offsets .now)) _ _ (t .loop .k) (t .loop .at) _ (t .loop .inv) (c .loop-test .left)
 

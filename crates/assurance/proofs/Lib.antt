@@ -7,3 +7,4 @@ pub mod EntryLaws
 pub mod LookupsHold
 pub mod ByRowsLaws
 pub mod ByRowsHold
+pub mod WrittenOut

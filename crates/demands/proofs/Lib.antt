@@ -13,3 +13,4 @@ pub mod ReplacingHolds
 pub mod StretchingHolds
 pub mod WholeLaws
 pub mod WorkedLaws
+pub mod WrittenOut

@@ -8,3 +8,4 @@ pub mod WritingHolds
 pub mod SaidLaws
 pub mod ReadingHolds
 pub mod SettledHolds
+pub mod WrittenOut

@@ -1,4 +1,3 @@
 -- The modules that belong to no one function.
 -- Assumes nothing.
 pub mod LineLaws
-pub mod LentLaws

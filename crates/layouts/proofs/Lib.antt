@@ -6,3 +6,4 @@ pub mod FlatLaws
 pub mod SizeLaws
 pub mod LimitLaws
 pub mod WrittenLaws
+pub mod LentLaws

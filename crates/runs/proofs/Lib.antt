@@ -6,3 +6,4 @@ pub mod TurnLaws
 pub mod MeasuredLaws
 pub mod StretchedLaws
 pub mod CountLaws
+pub mod LentLaws

@@ -32,7 +32,7 @@ pub record Even (c : Columns) : Type 0 where
   pub evenIgnorables : length (c .ignorables) ≡ length (c .actions)
   pub evenAdvances : length (c .advances) ≡ length (c .actions)
 
--- a line has them
+-- a line has these columns
 pub record Lent (c : Columns) (widths : List ℤ) (categories ignorables actions : List ℕ) (advances : List ℤ) : Type 0 where
   pub hasWidths : c .widths ≡ widths
   pub hasCategories : c .categories ≡ categories

@@ -28,6 +28,10 @@ Inv-loop rtl k glyphs widths categories ignorables actions m at to-glyphs₀ to-
 abbrev μ-loop : tie.MeasureT-loop
 μ-loop rtl k glyphs widths categories ignorables actions m at to-glyphs₀ to-widths₀ to-categories₀ to-ignorables₀ to-actions₀ to-advances₀ to-offsets₀ n past copies overlap x₀ next₀ i₀ to-glyphs to-widths to-categories to-ignorables to-actions to-advances to-offsets x next i = past - i
 
+-- the way back to the start, for places that are far behind
+abbrev start : tie.After-struct-told2 Inv-loop μ-loop → tie.Start Inv-loop μ-loop
+start c = search
+
 -- what the struct holds fits, and so do all tiles
 overlap-fits : (c : tie.After-struct-told2 Inv-loop μ-loop) → SFits w32 (c .before .before .before .before .before .before .before .before .before .before .args .run .overlap)
 overlap-fits c = search needs
@@ -38,25 +42,30 @@ start-fits c = search needs
 -- the place is one of the line
 spot : (c : tie.After-part Inv-loop μ-loop) → c .part .result < length (c .before .before .before .before .before .before .before .before .before .before .before .before .before .args .actions .now)
 spot c =
-    let s = c .before .before .before .before .before .before .before .before .before .before .before .before .before in
+    let s : tie.Start Inv-loop μ-loop = search in
     rw (c .part .ensures) (spot-below (s .args .rtl) (length (s .args .actions .now)) (c .before .before .loop .i) (omega (arith, c .before .loop-test .taken, s .pre .inside)))
 
 -- the tile there has room, with its copies
 tile-fits : (c : tie.After-times-of Inv-loop μ-loop) → c .before .before .before .before .loop .next + (1 + c .times-of .result) ≤ c .before .before .before .before .before .before .before .before .before .before .before .before .before .before .before .args .m
 unfolding piecesFrom
 tile-fits c =
-    let t = c .before .before .before .before in
-    let s = c .before .before .before .before .before .before .before .before .before .before .before .before .before .before .before in
+    let t : tie.At-loop Inv-loop μ-loop = search in
+    let told : tie.After-struct-told2 Inv-loop μ-loop = search in
+    let s : tie.Start Inv-loop μ-loop = search in
     let a = s .args in
     let p = c .before .before .part in
-    running-fits (a .rtl) (a .m) (bare (a .glyphs .now) (a .widths .now) (a .categories .now) (a .ignorables .now) (a .actions .now)) _ (a .run .past) (a .run .copies) _ _ _ (t .loop .i) (t .loop .next) (toZ w32 (t .loop .x)) _ (t .loop .inv) (s .pre .inside) (rw (back (overlap-fits (c .before .before .before .before .before))) (s .pre .there)) (c .before .before .before .loop-test .taken)
+    running-fits (a .rtl) (a .m) (bare (a .glyphs .now) (a .widths .now) (a .categories .now) (a .ignorables .now) (a .actions .now)) _ (a .run .past) (a .run .copies) _ _ _ (t .loop .i) (t .loop .next) (toZ w32 (t .loop .x)) _ (t .loop .inv) (s .pre .inside) (rw (back (overlap-fits told)) (s .pre .there)) (c .before .before .before .loop-test .taken)
     (p .result) (p .ensures) (kept (recordAt (bare (a .glyphs .now) (a .widths .now) (a .categories .now) (a .ignorables .now) (a .actions .now)) (p .result))) refl (c .times-of .result) (c .times-of .ensures)
 
 loop-holds : tie.Need-loop-holds Inv-loop μ-loop
-loop-holds c = let s = c .before .before .before .before .before .before .before .before .before .before in running-starts _ _ _ _ (s .args .k) (s .args .at) _ _ _ _ (s .pre .begun)
+loop-holds c =
+    let s : tie.Start Inv-loop μ-loop = search in
+    running-starts _ _ _ _ (s .args .k) (s .args .at) _ _ _ _ (s .pre .begun)
 
 part-requires : tie.Need-part-requires Inv-loop μ-loop
-part-requires c κs = omega (arith, c .loop-test .taken, c .before .before .before .before .before .before .before .before .before .before .before .before .pre .inside)
+part-requires c κs =
+    let s : tie.Start Inv-loop μ-loop = search in
+    omega (arith, c .loop-test .taken, s .pre .inside)
 
 shared-slice-read-action : tie.Need-shared-slice-read-action Inv-loop μ-loop
 shared-slice-read-action c = omega (arith, spot (c .before))
@@ -65,47 +74,80 @@ times-of-requires : tie.Need-times-of-requires Inv-loop μ-loop
 times-of-requires c κs = search needs
 
 at-requires : tie.Need-at-requires Inv-loop μ-loop
-at-requires c κs = omega (arith, spot (c .before .before), c .before .before .before .before .before .before .before .before .before .before .before .before .before .before .before .pre .even .tileWidths)
+at-requires c κs =
+    let s : tie.Start Inv-loop μ-loop = search in
+    omega (arith, spot (c .before .before), s .pre .even .tileWidths)
 
 mul-t33 : tie.Need-mul-t33 Inv-loop μ-loop
-mul-t33 c = omega (arith, spot (c .before .before .before), c .before .before .before .before .before .before .before .before .before .before .before .before .before .before .before .before .pre .even .tileGlyphs)
+mul-t33 c =
+    let s : tie.Start Inv-loop μ-loop = search in
+    omega (arith, spot (c .before .before .before), s .pre .even .tileGlyphs)
 
 shared-slice-read-t35 : tie.Need-shared-slice-read-t35 Inv-loop μ-loop
-shared-slice-read-t35 c = omega (arith, spot (c .before .before .before .before), c .before .before .before .before .before .before .before .before .before .before .before .before .before .before .before .before .before .pre .even .tileGlyphs)
+shared-slice-read-t35 c =
+    let found : tie.After-part Inv-loop μ-loop = search in
+    let s : tie.Start Inv-loop μ-loop = search in
+    omega (arith, spot found, s .pre .even .tileGlyphs)
 
 shared-slice-read-t32 : tie.Need-shared-slice-read-t32 Inv-loop μ-loop
-shared-slice-read-t32 c = omega (arith, spot (c .before .before .before .before .before), c .before .before .before .before .before .before .before .before .before .before .before .before .before .before .before .before .before .before .pre .even .tileCategories)
+shared-slice-read-t32 c =
+    let found : tie.After-part Inv-loop μ-loop = search in
+    let s : tie.Start Inv-loop μ-loop = search in
+    omega (arith, spot found, s .pre .even .tileCategories)
 
 shared-slice-read-t39 : tie.Need-shared-slice-read-t39 Inv-loop μ-loop
-shared-slice-read-t39 c = omega (arith, spot (c .before .before .before .before .before .before), c .before .before .before .before .before .before .before .before .before .before .before .before .before .before .before .before .before .before .before .pre .even .tileIgnorables)
+shared-slice-read-t39 c =
+    let found : tie.After-part Inv-loop μ-loop = search in
+    let s : tie.Start Inv-loop μ-loop = search in
+    omega (arith, spot found, s .pre .even .tileIgnorables)
 
 place-tile-requires : tie.Need-place-tile-requires Inv-loop μ-loop
-place-tile-requires c κs = (tile-fits (c .before .before .before .before .before .before .before .before .before .before .before), roomy-same (c .before .before .before .before .before .before .before .before .before .before .before .before .before .before .before .loop .inv .same) (c .before .before .before .before .before .before .before .before .before .before .before .before .before .before .before .before .before .before .before .before .before .before .before .before .before .before .pre .room))
+place-tile-requires c κs =
+    let counted : tie.After-times-of Inv-loop μ-loop = search in
+    let at-loop : tie.At-loop Inv-loop μ-loop = search in
+    let s : tie.Start Inv-loop μ-loop = search in
+    (tile-fits counted, roomy-same (at-loop .loop .inv .same) (s .pre .room))
 
 add-next : tie.Need-add-next Inv-loop μ-loop
-add-next c = record { fits = omega (arith, tile-fits (c .before .before .before .before .before .before .before .before .before .before .before .before .before .before .before .before .before .before .before .before .before .before .before), c .before .before .before .before .before .before .before .before .before .before .before .before .before .before .before .before .before .before .before .before .before .before .before .before .before .before .before .before .before .before .before .before .before .before .before .before .before .before .fits .m) }
+add-next c =
+    let counted : tie.After-times-of Inv-loop μ-loop = search in
+    let s : tie.Start Inv-loop μ-loop = search in
+    record { fits = omega (arith, tile-fits counted, s .fits .m) }
 
 add-next-2 : tie.Need-add-next-2 Inv-loop μ-loop
-add-next-2 c = record { fits = omega (arith, tile-fits (c .before .before .before .before .before .before .before .before .before .before .before .before .before .before .before .before .before .before .before .before .before .before .before), c .before .before .before .before .before .before .before .before .before .before .before .before .before .before .before .before .before .before .before .before .before .before .before .before .before .before .before .before .before .before .before .before .before .before .before .before .before .before .fits .m) }
+add-next-2 c =
+    let counted : tie.After-times-of Inv-loop μ-loop = search in
+    let s : tie.Start Inv-loop μ-loop = search in
+    record { fits = omega (arith, tile-fits counted, s .fits .m) }
 
 add-i : tie.Need-add-i Inv-loop μ-loop
-add-i c = omega (arith, c .before .before .before .before .before .before .before .before .before .before .before .before .before .before .before .before .before .before .before .before .before .before .before .before .before .before .loop-test .taken)
+add-i c =
+    let in-loop : tie.In-loop Inv-loop μ-loop = search in
+    omega (arith, in-loop .loop-test .taken)
 
 loop-less : tie.Need-loop-less Inv-loop μ-loop
-loop-less c = omega (arith, c .before .before .before .before .before .before .before .before .before .before .before .before .before .before .before .before .before .before .before .before .before .before .before .before .before .before .loop-test .taken)
+loop-less c =
+    let in-loop : tie.In-loop Inv-loop μ-loop = search in
+    omega (arith, in-loop .loop-test .taken)
 
 loop-again : tie.Need-loop-again Inv-loop μ-loop
 unfolding piecesFrom
 loop-again c =
-    let t = c .before .before .before .before .before .before .before .before .before .before .before .before .before .before .before .before .before .before .before .before .before .before .before .before .before .before .before in
-    let s = c .before .before .before .before .before .before .before .before .before .before .before .before .before .before .before .before .before .before .before .before .before .before .before .before .before .before .before .before .before .before .before .before .before .before .before .before .before .before in
+    let laid-there : tie.After-place-tile Inv-loop μ-loop = search in
+    let measure : tie.After-at Inv-loop μ-loop = search in
+    let counted : tie.After-times-of Inv-loop μ-loop = search in
+    let found : tie.After-part Inv-loop μ-loop = search in
+    let in-loop : tie.In-loop Inv-loop μ-loop = search in
+    let t : tie.At-loop Inv-loop μ-loop = search in
+    let told : tie.After-struct-told2 Inv-loop μ-loop = search in
+    let s = start told in
     let a = s .args in
-    let p = c .before .before .before .before .before .before .before .before .before .before .before .before .before .before .before .before .before .before .before .before .before .before .before .before .before .part in
-    let width-fits : SFits w32 (c .before .before .before .before .before .before .before .before .before .before .before .before .before .before .before .before .before .before .before .before .before .before .at .result) = record { sfits = c .before .before .before .before .before .before .before .before .before .before .before .before .before .before .before .before .before .before .before .before .before .before .at .ok } in
-    let x-fits : SFits w32 (c .before .before .before .before .before .before .before .before .before .before .before .place-tile .result) = record { sfits = c .before .before .before .before .before .before .before .before .before .before .before .place-tile .ok } in
-    rw (back x-fits) (running-next (a .rtl) (a .m) (bare (a .glyphs .now) (a .widths .now) (a .categories .now) (a .ignorables .now) (a .actions .now)) _ (a .run .past) (a .run .copies) _ _ _ (t .loop .i) (t .loop .next) (toZ w32 (t .loop .x)) _ (t .loop .inv) (s .pre .inside) (rw (back (overlap-fits (c .before .before .before .before .before .before .before .before .before .before .before .before .before .before .before .before .before .before .before .before .before .before .before .before .before .before .before .before))) (s .pre .there)) (c .before .before .before .before .before .before .before .before .before .before .before .before .before .before .before .before .before .before .before .before .before .before .before .before .before .before .loop-test .taken)
-    (p .result) (p .ensures) _ (tile-is (rw (back width-fits) (c .before .before .before .before .before .before .before .before .before .before .before .before .before .before .before .before .before .before .before .before .before .before .at .ensures))) (c .before .before .before .before .before .before .before .before .before .before .before .before .before .before .before .before .before .before .before .before .before .before .before .times-of .result) (c .before .before .before .before .before .before .before .before .before .before .before .before .before .before .before .before .before .before .before .before .before .before .before .times-of .ensures) (s .pre .room)
-    (c .before .before .before .before .before .before .before .before .before .before .before .place-tile .result) (c .before .before .before .before .before .before .before .before .before .before .before .place-tile .ensures .0) _ (c .before .before .before .before .before .before .before .before .before .before .before .place-tile .ensures .1))
+    let p = found .part in
+    let width-fits : SFits w32 (measure .at .result) = record { sfits = measure .at .ok } in
+    let x-fits : SFits w32 (laid-there .place-tile .result) = record { sfits = laid-there .place-tile .ok } in
+    rw (back x-fits) (running-next (a .rtl) (a .m) (bare (a .glyphs .now) (a .widths .now) (a .categories .now) (a .ignorables .now) (a .actions .now)) _ (a .run .past) (a .run .copies) _ _ _ (t .loop .i) (t .loop .next) (toZ w32 (t .loop .x)) _ (t .loop .inv) (s .pre .inside) (rw (back (overlap-fits told)) (s .pre .there)) (in-loop .loop-test .taken)
+    (p .result) (p .ensures) _ (tile-is (rw (back width-fits) (measure .at .ensures))) (counted .times-of .result) (counted .times-of .ensures) (s .pre .room)
+    (laid-there .place-tile .result) (laid-there .place-tile .ensures .0) _ (laid-there .place-tile .ensures .1))
 
 same-length : tie.Need-same-length Inv-loop μ-loop
 same-length c = c .before .loop .inv .same .sameGlyphs
@@ -131,8 +173,8 @@ same-length-7 c = c .before .loop .inv .same .sameOffsets
 returns : tie.Need-returns Inv-loop μ-loop
 unfolding piecesFrom
 returns c =
+    let s : tie.Start Inv-loop μ-loop = search in
     let t = c .before in
-    let s = c .before .before .before .before .before .before .before .before .before .before .before .before in
     let a = s .args in
     let told = c .before .before in
     let e = running-ends (a .rtl) (a .m) (bare (a .glyphs .now) (a .widths .now) (a .categories .now) (a .ignorables .now) (a .actions .now)) _ (a .run .past) (a .run .copies) _ _ _ (t .loop .i) (t .loop .next) (toZ w32 (t .loop .x)) _ (t .loop .inv) (s .pre .inside) (rw (back (overlap-fits told)) (s .pre .there)) (c .loop-test .left) in

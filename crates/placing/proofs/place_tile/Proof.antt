@@ -28,22 +28,31 @@ abbrev μ-loop : tie.MeasureT-loop
 μ-loop rtl tile times start overlap m at to-glyphs₀ to-widths₀ to-categories₀ to-ignorables₀ to-actions₀ to-advances₀ to-offsets₀ width end x₀ lap₀ j₀ to-glyphs to-widths to-categories to-ignorables to-actions to-advances to-offsets x lap j = end - j
 
 add-end : tie.Need-add-end Inv-loop μ-loop
-add-end c = let s = c .before .before .before .before .before in record { fits = omega (arith, s .fits .m, s .pre .0) }
+add-end c =
+    let s : tie.Start Inv-loop μ-loop = search in
+    record { fits = omega (arith, s .fits .m, s .pre .0) }
 
 add-end-2 : tie.Need-add-end-2 Inv-loop μ-loop
-add-end-2 c = let s = c .before .before .before .before .before in record { fits = omega (arith, s .fits .m, s .pre .0) }
+add-end-2 c =
+    let s : tie.Start Inv-loop μ-loop = search in
+    record { fits = omega (arith, s .fits .m, s .pre .0) }
 
 -- the place is one of the m, for which each column has room
 here : (c : tie.After-offset-of Inv-loop μ-loop) → (c .before .before .part .result < c .before .before .before .before .before .before .before .before .before .before .args .m) × Roomy (c .before .before .before .before .before .before .before .before .before .before .args .m) (columns (c .before .before .before .before .loop .to-glyphs) (c .before .before .before .before .loop .to-widths) (c .before .before .before .before .loop .to-categories) (c .before .before .before .before .loop .to-ignorables) (c .before .before .before .before .loop .to-actions) (c .before .before .before .before .loop .to-advances) (c .before .before .before .before .loop .to-offsets))
 here c =
-    let s = c .before .before .before .before .before .before .before .before .before .before in
-    (rw (c .before .before .part .ensures) (spot-below (s .args .rtl) (s .args .m) (c .before .before .before .before .loop .j) (omega (arith, c .before .before .before .loop-test .taken, s .pre .0))), roomy-same (c .before .before .before .before .loop .inv .same) (s .pre .1))
+    let at-loop : tie.At-loop Inv-loop μ-loop = search in
+    let s : tie.Start Inv-loop μ-loop = search in
+    (rw (c .before .before .part .ensures) (spot-below (s .args .rtl) (s .args .m) (at-loop .loop .j) (omega (arith, c .before .before .before .loop-test .taken, s .pre .0))), roomy-same (at-loop .loop .inv .same) (s .pre .1))
 
 loop-holds : tie.Need-loop-holds Inv-loop μ-loop
-loop-holds c = let a = c .before .before .before .before .before .args in laying-starts _ _ _ _ _ _ (a .at) (a .times) _ refl
+loop-holds c =
+    let s : tie.Start Inv-loop μ-loop = search in
+    let a = s .args in laying-starts _ _ _ _ _ _ (a .at) (a .times) _ refl
 
 part-requires : tie.Need-part-requires Inv-loop μ-loop
-part-requires c κs = omega (arith, c .loop-test .taken, c .before .before .before .before .before .before .before .pre .0)
+part-requires c κs =
+    let s : tie.Start Inv-loop μ-loop = search in
+    omega (arith, c .loop-test .taken, s .pre .0)
 
 moved-requires : tie.Need-moved-requires Inv-loop μ-loop
 moved-requires c κs = search needs
@@ -85,15 +94,17 @@ slice-set-from-offset : tie.Need-slice-set-from-offset Inv-loop μ-loop
 slice-set-from-offset c = let h = here c in omega (arith, h .0, h .1 .forOffsets)
 
 add-j : tie.Need-add-j Inv-loop μ-loop
-add-j c = let s = c .before .before .before .before .before .before .before .before .before .before in record { fits = omega (arith, c .before .before .before .loop-test .taken, s .fits .m, s .pre .0) }
+add-j c =
+    let s : tie.Start Inv-loop μ-loop = search in
+    record { fits = omega (arith, c .before .before .before .loop-test .taken, s .fits .m, s .pre .0) }
 
 loop-less : tie.Need-loop-less Inv-loop μ-loop
 loop-less c = omega (arith, c .before .before .before .loop-test .taken)
 
 loop-again : tie.Need-loop-again Inv-loop μ-loop
 loop-again c =
-    let t = c .before .before .before .before in
-    let s = c .before .before .before .before .before .before .before .before .before .before in
+    let t : tie.At-loop Inv-loop μ-loop = search in
+    let s : tie.Start Inv-loop μ-loop = search in
     let a = s .args in
     let width-fits : SFits w32 (a .tile .width) = search needs in
     let y-fits : SFits w32 (c .before .moved .result) = record { sfits = c .before .moved .ok } in
@@ -123,8 +134,8 @@ same-length-7 c = c .before .loop .inv .same .sameOffsets
 
 returns : tie.Need-returns Inv-loop μ-loop
 returns c =
+    let s : tie.Start Inv-loop μ-loop = search in
     let t = c .before in
-    let s = c .before .before .before .before .before .before .before in
     let e = laying-ends _ _ _ _ _ _ _ _ (t .loop .j) (toZ w32 (t .loop .x)) (toZ w32 (t .loop .lap)) _ (t .loop .inv) (c .loop-test .left) in
     rw (back (s .fits .start), back (s .fits .overlap)) at e
 

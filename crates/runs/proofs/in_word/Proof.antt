@@ -23,7 +23,9 @@ is-word-category-requires c κs = search needs
 
 returns-3 : tie.Need-returns-3
 unfolding wordNumbers
-returns-3 c = rw (sym (c .before .before .before .is-tile .ensures) ∙ c .before .before .if1 .left, eq-eqb (c .before .before .before .before .args .ignorable) 0 (c .before .if2 .left)) (c .is-word-category .ensures)
+returns-3 c =
+    let s : tie.Start = search in
+    rw (sym (c .before .before .before .is-tile .ensures) ∙ c .before .before .if1 .left, eq-eqb (s .args .ignorable) 0 (c .before .if2 .left)) (c .is-word-category .ensures)
 
 pub in-word-spec : {M : Type 1} → statement M
 in-word-spec =

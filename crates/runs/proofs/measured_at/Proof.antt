@@ -17,23 +17,28 @@ use Rattle.runs.proofs.measured_at.Tie as tie
 -- the run ends within the line, and has no more tiles than it
 sums-within : (c : tie.After-sums-at) → (c .sums-at .result .past ≤ length (c .before .before .before .before .args .actions .now)) × (c .sums-at .result .tiles ≤ length (c .before .before .before .before .args .actions .now))
 sums-within c =
-    let a = c .before .before .before .before .args in
+    let s : tie.Start = search in
+    let a = s .args in
     let l = columns [] (a .widths .now) (a .categories .now) (a .ignorables .now) (a .actions .now) (a .advances .now) [] in
-    sums-fit (a .rtl) l (a .from) (c .before .before .before .before .pre .0) (c .sums-at .result) (c .sums-at .ensures l refl refl)
+    sums-fit (a .rtl) l (a .from) (s .pre .0) (c .sums-at .result) (c .sums-at .ensures l refl refl)
 
 sums-at-requires : tie.Need-sums-at-requires
 sums-at-requires c κs = search needs
 
 word-at-requires : tie.Need-word-at-requires
 word-at-requires c κs =
-    let even = c .before .before .before .before .before .before .pre .1 .1 in
+    let s : tie.Start = search in
+    let even = s .pre .1 .1 in
     (sums-within (c .before .before) .0, (even .evenCategories, (even .evenIgnorables, even .evenAdvances)))
 
 sat-sub-requires : tie.Need-sat-sub-requires
 sat-sub-requires c κs = search needs
 
 fill-requires : tie.Need-fill-requires
-fill-requires c κs = omega (arith, sums-within (c .before .before .before .before) .1, c .before .before .before .before .before .before .before .before .pre .1 .0)
+fill-requires c κs =
+    let summed-run : tie.After-sums-at = search in
+    let s : tie.Start = search in
+    omega (arith, sums-within summed-run .1, s .pre .1 .0)
 
 returns : tie.Need-returns
 returns c = λ l lent.

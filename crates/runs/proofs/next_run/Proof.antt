@@ -31,11 +31,13 @@ shared-slice-read-if1 c =
     rw (c .before .part .ensures) (spot-below _ _ (l .loop .k) (c .before .before .loop-test .taken))
 
 returns : tie.Need-returns Inv-loop μ-loop
-returns c = λ l e.
-    let t = c .before .before .before .before .before in
+returns c =
+    let in-loop : tie.In-loop Inv-loop μ-loop = search in
+    let t : tie.At-loop Inv-loop μ-loop = search in
+    λ l e.
     let a = t .before .before .args in
     let i = c .before .before .before .part .result in
-    sym (t .loop .inv .1 l e ∙ plain-stops (a .rtl) l (a .actions .now) e (t .loop .k) i (c .before .before .before .before .loop-test .taken) (c .before .before .before .part .ensures) (tile-above _ (c .if1 .taken) (atMost-at repeating (a .actions .now) (t .before .before .pre .1) i)))
+    sym (t .loop .inv .1 l e ∙ plain-stops (a .rtl) l (a .actions .now) e (t .loop .k) i (in-loop .loop-test .taken) (c .before .before .before .part .ensures) (tile-above _ (c .if1 .taken) (atMost-at repeating (a .actions .now) (t .before .before .pre .1) i)))
 
 add-k : tie.Need-add-k Inv-loop μ-loop
 add-k c = search needs
@@ -45,10 +47,11 @@ loop-less c = search needs
 
 loop-again : tie.Need-loop-again Inv-loop μ-loop
 loop-again c =
-    let t = c .before .before .before .before .before in
+    let in-loop : tie.In-loop Inv-loop μ-loop = search in
+    let t : tie.At-loop Inv-loop μ-loop = search in
     let a = t .before .before .args in
     let i = c .before .before .before .part .result in
-    (search needs, λ l e. t .loop .inv .1 l e ∙ plain-turn (a .rtl) l (a .actions .now) e (t .loop .k) i (c .before .before .before .before .loop-test .taken) (c .before .before .before .part .ensures) (tile-below _ (c .if1 .left)))
+    (search needs, λ l e. t .loop .inv .1 l e ∙ plain-turn (a .rtl) l (a .actions .now) e (t .loop .k) i (in-loop .loop-test .taken) (c .before .before .before .part .ensures) (tile-below _ (c .if1 .left)))
 
 returns-2 : tie.Need-returns-2 Inv-loop μ-loop
 returns-2 c = λ l e.

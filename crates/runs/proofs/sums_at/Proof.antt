@@ -28,7 +28,10 @@ shared-slice-read-action : tie.Need-shared-slice-read-action Inv-loop μ-loop
 shared-slice-read-action c = rw (c .before .part .ensures) (spot-below _ _ _ (c .before .before .loop-test .taken))
 
 at-requires : tie.Need-at-requires Inv-loop μ-loop
-at-requires c κs = rw (c .before .before .before .part .ensures, c .before .before .before .before .before .before .before .pre .1) (spot-below _ _ _ (c .before .before .before .before .loop-test .taken))
+at-requires c κs =
+    let in-loop : tie.In-loop Inv-loop μ-loop = search in
+    let s : tie.Start Inv-loop μ-loop = search in
+    rw (c .before .before .before .part .ensures, s .pre .1) (spot-below _ _ _ (in-loop .loop-test .taken))
 
 sat-add-requires : tie.Need-sat-add-requires Inv-loop μ-loop
 sat-add-requires c κs = search needs
@@ -41,14 +44,20 @@ loop-less c = search needs
 
 loop-again : tie.Need-loop-again Inv-loop μ-loop
 loop-again c =
-    let t = c .before .before .before .before .before .before .before in
+    let found : tie.After-part Inv-loop μ-loop = search in
+    let in-loop : tie.In-loop Inv-loop μ-loop = search in
+    let t : tie.At-loop Inv-loop μ-loop = search in
     let a = t .before .before .args in
-    let i = c .before .before .before .before .before .part .result in
+    let i = found .part .result in
     let e = summed (t .loop .fixed) _ _ _ (c .before .at .ok) (c .before .at .ensures) (c .sat-add .ensures) in
-    (omega arith, omega arith, λ l w e′. rw e (fixed-turn (a .rtl) l (a .actions .now) e′ (t .loop .k) i (c .before .before .before .before .before .before .loop-test .taken) (c .before .before .before .before .before .part .ensures) (a .from) (a .widths .now) w (toZ w32 (t .loop .fixed)) (toZ w32 (t .loop .repeating)) (t .loop .tiles) (t .loop .inv .2 l w e′) (c .before .before .if1 .taken)))
+    (omega arith, omega arith, λ l w e′. rw e (fixed-turn (a .rtl) l (a .actions .now) e′ (t .loop .k) i (in-loop .loop-test .taken) (found .part .ensures) (a .from) (a .widths .now) w (toZ w32 (t .loop .fixed)) (toZ w32 (t .loop .repeating)) (t .loop .tiles) (t .loop .inv .2 l w e′) (c .before .before .if1 .taken)))
 
 at-requires-2 : tie.Need-at-requires-2 Inv-loop μ-loop
-at-requires-2 c κs = rw (c .before .before .before .before .before .part .ensures, c .before .before .before .before .before .before .before .before .before .pre .1) (spot-below _ _ _ (c .before .before .before .before .before .before .loop-test .taken))
+at-requires-2 c κs =
+    let found : tie.After-part Inv-loop μ-loop = search in
+    let in-loop : tie.In-loop Inv-loop μ-loop = search in
+    let s : tie.Start Inv-loop μ-loop = search in
+    rw (found .part .ensures, s .pre .1) (spot-below _ _ _ (in-loop .loop-test .taken))
 
 sat-add-requires-2 : tie.Need-sat-add-requires-2 Inv-loop μ-loop
 sat-add-requires-2 c κs = search needs
@@ -64,17 +73,22 @@ loop-less-2 c = search needs
 
 loop-again-2 : tie.Need-loop-again-2 Inv-loop μ-loop
 loop-again-2 c =
-    let t = c .before .before .before .before .before .before .before .before .before in
+    let found : tie.After-part Inv-loop μ-loop = search in
+    let in-loop : tie.In-loop Inv-loop μ-loop = search in
+    let t : tie.At-loop Inv-loop μ-loop = search in
     let a = t .before .before .args in
-    let i = c .before .before .before .before .before .before .before .part .result in
+    let i = found .part .result in
     let e = summed (t .loop .repeating) _ _ _ (c .before .at2 .ok) (c .before .at2 .ensures) (c .sat-add2 .ensures) in
-    (omega arith, omega arith, λ l w e′. rw e (repeating-turn (a .rtl) l (a .actions .now) e′ (t .loop .k) i (c .before .before .before .before .before .before .before .before .loop-test .taken) (c .before .before .before .before .before .before .before .part .ensures) (a .from) (a .widths .now) w (toZ w32 (t .loop .fixed)) (toZ w32 (t .loop .repeating)) (t .loop .tiles) (t .loop .inv .2 l w e′) (c .before .before .if2 .taken)))
+    (omega arith, omega arith, λ l w e′. rw e (repeating-turn (a .rtl) l (a .actions .now) e′ (t .loop .k) i (in-loop .loop-test .taken) (found .part .ensures) (a .from) (a .widths .now) w (toZ w32 (t .loop .fixed)) (toZ w32 (t .loop .repeating)) (t .loop .tiles) (t .loop .inv .2 l w e′) (c .before .before .if2 .taken)))
 
 returns : tie.Need-returns Inv-loop μ-loop
-returns c = λ l w e.
-    let t = c .before .before .before .before .before .before .before in
+returns c =
+    let found : tie.After-part Inv-loop μ-loop = search in
+    let in-loop : tie.In-loop Inv-loop μ-loop = search in
+    let t : tie.At-loop Inv-loop μ-loop = search in
+    λ l w e.
     let a = t .before .before .args in
-    run-stops (a .rtl) l (a .actions .now) e (t .loop .k) (c .before .before .before .before .before .part .result) (c .before .before .before .before .before .before .loop-test .taken) (c .before .before .before .before .before .part .ensures) (a .from) (a .widths .now) w (toZ w32 (t .loop .fixed)) (toZ w32 (t .loop .repeating)) (t .loop .tiles) (t .loop .inv .2 l w e) (c .before .before .if1 .left) (c .if2 .left)
+    run-stops (a .rtl) l (a .actions .now) e (t .loop .k) (found .part .result) (in-loop .loop-test .taken) (found .part .ensures) (a .from) (a .widths .now) w (toZ w32 (t .loop .fixed)) (toZ w32 (t .loop .repeating)) (t .loop .tiles) (t .loop .inv .2 l w e) (c .before .before .if1 .left) (c .if2 .left)
 
 returns-2 : tie.Need-returns-2 Inv-loop μ-loop
 returns-2 c = λ l w e.

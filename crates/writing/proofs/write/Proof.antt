@@ -4,7 +4,6 @@ use mathlib.Core.Path.{refl}
 use mathlib.Core.Bool.{false}
 use Prim.Native.Nat.{_-_}
 use native.Mathlib.Omega.{arith}
-use lib.ListN.{length}
 use Rattle.runs.specs.Records.{columns}
 use Rattle.runs.specs.Stretched.{work, worked}
 use Rattle.runs.specs.Measured.{measuresNow, Even, Lent}

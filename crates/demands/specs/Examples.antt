@@ -13,31 +13,31 @@ use Rattle.letters.specs.Categories.{Cf, Lo, Mn, Zs}
 use Rattle.letters.specs.Actions.{isol, fina, fin2, fin3, medi, med2, init, none, repeating}
 use Rattle.lines.specs.Held.{Setting, Line, settingOf, lineOf}
 use Rattle.lines.specs.Joined.{joinAfter}
-use Rattle.replacing.specs.Replaced as replacing
+use Rattle.replacing.specs.Replaced.{Request, replaceAfter, requestOf}
 use Rattle.marks.specs.Passes.{Span, Over}
 use Rattle.marks.specs.Reordered.{ReorderRequest, Columns, reorderRequest, columnsOf, reorderOutcome, reorderAfter}
 use Rattle.runs.specs.Records as line
-use Rattle.stretching.specs.Stretching as stretching
+use Rattle.stretching.specs.Stretching.{StretchRequest, stretchAfter, stretchOutcome, stretchRequest, stretchedLimit}
 use Rattle.layouts.specs.declared.Kind.the-variants.{Single}
 use Rattle.layouts.specs.Lookups.{Lookup, lookupOf}
-use Rattle.layouts.specs.Written as writing
+use Rattle.layouts.specs.Written.{writeAfter, writeOutcome}
 
 -- joining: the setting, the line before and after; replacing: the request as well; reordering of marks: the request, the columns before, the ranges, and the columns after; stretching: the request, with the line,
 -- the output before, how many records the answer says, and the output after; writing: the lookup, the area before, how many bytes the answer says, and the area after
 pub data Example : Type 0 where
   Joins : (given : Setting) → (before after : Line) → Example
-  Replaces : (given : Setting) → (asked : replacing.Request) → (before after : Line) → Example
+  Replaces : (given : Setting) → (asked : Request) → (before after : Line) → Example
   Reorders : (asked : ReorderRequest) → (before : Columns) → (ranges : List Span) → (after : Columns) → Example
-  Stretches : (asked : stretching.StretchRequest) → (before : line.Columns) → (count : ℕ) → (after : line.Columns) → Example
+  Stretches : (asked : StretchRequest) → (before : line.Columns) → (count : ℕ) → (after : line.Columns) → Example
   Writes : (asked : Lookup) → (before : List ℕ) → (count : ℕ) → (after : List ℕ) → Example
 
 -- each is of the whole call, which accepts it
 abbrev pub Gives : Example → Type 0
 Gives (Joins given before after) = joinAfter given before ≡ After 0 after
-Gives (Replaces given asked before after) = replacing.replaceAfter given asked before ≡ After 0 after
+Gives (Replaces given asked before after) = replaceAfter given asked before ≡ After 0 after
 Gives (Reorders asked before ranges after) = reorderAfter asked before ≡ After 0 (reorderOutcome ranges after)
-Gives (Stretches asked before count after) = stretching.stretchAfter stretching.stretchedLimit asked before ≡ After 0 (stretching.stretchOutcome count after)
-Gives (Writes asked before count after) = writing.writeAfter asked before ≡ After 0 (writing.writeOutcome count after)
+Gives (Stretches asked before count after) = stretchAfter stretchedLimit asked before ≡ After 0 (stretchOutcome count after)
+Gives (Writes asked before count after) = writeAfter asked before ≡ After 0 (writeOutcome count after)
 
 abbrev pub Each : List Example → Type 0
 Each [] = Unit
@@ -97,7 +97,7 @@ examples =
     (columnsOf (0x0655 ∷ 0x0654 ∷ 0x064E ∷ 0x065F ∷ []) (25 ∷ 26 ∷ 30 ∷ 220 ∷ [])) ∷
     -- right to left, Lo advance 10, repeating tile 4: four records, offsets of the last three -10 -7 -4. `negsuc n` is -(n + 1); the output has one place more, and numbers of its own, of which the last stay
     Stretches
-    (stretching.stretchRequest true true
+    (stretchRequest true true
     (line.columns
     (1 ∷ 2 ∷ [])
     (pos 10 ∷ pos 4 ∷ [])
@@ -125,7 +125,7 @@ examples =
     (pos 0 ∷ negsuc 9 ∷ negsuc 6 ∷ negsuc 3 ∷ pos 99 ∷ [])) ∷
     -- tile 5: three records, offsets -5 0
     Stretches
-    (stretching.stretchRequest true true
+    (stretchRequest true true
     (line.columns
     (1 ∷ 2 ∷ [])
     (pos 10 ∷ pos 5 ∷ [])
@@ -173,7 +173,7 @@ unstarred =
     -- D D D, the middle replaced by U: isol none isol
     Replaces
     (setting [] [])
-    (replacing.requestOf 1 0x0020 U Zs)
+    (requestOf 1 0x0020 U Zs)
     (lent (D ∷ D ∷ D ∷ []) (init ∷ medi ∷ fina ∷ []) (192 ∷ 144 ∷ 130 ∷ []))
     (lineOf (0x0628 ∷ 0x0020 ∷ 0x0628 ∷ []) (D ∷ U ∷ D ∷ []) (Lo ∷ Zs ∷ Lo ∷ []) (128 ∷ 128 ∷ 128 ∷ []) (isol ∷ none ∷ isol ∷ []) (129 ∷ 128 ∷ 129 ∷ [])) ∷
     []

@@ -20,11 +20,14 @@ source b =
 -- no more rules than rows, so they are in what is lent
 few : (k : tie.After-collect) → k .collect .result ≤ k .before .before .before .before .before .before .before .args .count
 few k =
-    let b = k .before .before .before .before .before .before .before in
+    let s : tie.Start = search in
+    let b = s in
     omega (arith, k .collect .ensures .counted, few-rules (fontOf (b .args .codes .now) (b .args .glyphs .now)) (source b) (b .pre .1))
 
 in-rules : (k : tie.After-collect) → k .collect .result ≤ length (k .collect .last .1 .1 .1 .1 .1 .1 .1 .1 .0)
-in-rules k = omega (arith, few k, k .collect .kept .1 .1 .1 .1 .1 .1 .1 .1 .0, k .before .before .before .before .before .before .before .pre .2)
+in-rules k =
+    let s : tie.Start = search in
+    omega (arith, few k, k .collect .kept .1 .1 .1 .1 .1 .1 .1 .1 .0, s .pre .2)
 
 collect-requires : tie.Need-collect-requires
 collect-requires c κs = search needs
@@ -37,18 +40,21 @@ slice-aggregate-sort c = sym (length-take-le _ _ (in-rules (c .before .before .b
 
 sort-requires : tie.Need-sort-requires
 sort-requires c κs =
+    let s : tie.Start = search in
     let k = c .before .before .before in
     let n = length-take-le (k .collect .result) (k .collect .last .1 .1 .1 .1 .1 .1 .1 .1 .0) (in-rules k) in
-    omega (arith, n, few k, k .before .before .before .before .before .before .before .pre .1 .few)
+    omega (arith, n, few k, s .pre .1 .few)
 
 same-length : tie.Need-same-length
 same-length c = search needs
 
 returns : tie.Need-returns
 returns c =
+    let s : tie.Start = search in
+    let at-collect : tie.After-collect = search in
     let q = c .before .before in
-    let k = q .before .before .before .before in
-    let b = k .before .before .before .before .before .before .before in
+    let k = at-collect in
+    let b = s in
     ordered-collected (fontOf (b .args .codes .now) (b .args .glyphs .now)) (source b) (b .pre .1) (b .args .rules .now) (k .collect .last .1 .1 .1 .1 .1 .1 .1 .1 .0) (k .collect .result) (k .collect .ensures) (q .sort .last .0) (q .sort .ensures)
 
 pub order-rules-spec : {M : Type 1} → statement M

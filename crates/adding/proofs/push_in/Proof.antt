@@ -15,39 +15,54 @@ wide-in : (b : tie.Start) → length (b .args .rules .now) * b .args .n ≤ 3072
 wide-in b = within (b .args .n) (b .args .rules .now) (b .pre .0) (b .pre .1) (b .pre .2)
 
 in-firsts : (u : tie.After-unpack) → length (u .before .before .before .before .before .before .before .args .rules .now) * u .before .before .before .before .before .before .before .args .n ≤ length (u .unpack .last .1 .1 .0)
-in-firsts u = omega (arith, wide-in (u .before .before .before .before .before .before .before), u .unpack .kept .1 .1 .0, u .before .before .before .before .before .before .before .pre .3)
+in-firsts u =
+    let s : tie.Start = search in
+    omega (arith, wide-in (s), u .unpack .kept .1 .1 .0, s .pre .3)
 
 in-seconds : (u : tie.After-unpack) → length (u .before .before .before .before .before .before .before .args .rules .now) ≤ length (u .unpack .last .1 .1 .1 .0)
-in-seconds u = omega (arith, u .unpack .kept .1 .1 .1 .0, u .before .before .before .before .before .before .before .pre .2, u .before .before .before .before .before .before .before .pre .4)
+in-seconds u =
+    let s : tie.Start = search in
+    omega (arith, u .unpack .kept .1 .1 .1 .0, s .pre .2, s .pre .4)
 
 unpack-requires : tie.Need-unpack-requires
 unpack-requires c κs =
-    let b = c .before .before .before .before .before .before in
+    let s : tie.Start = search in
+    let b = s in
     (omega (arith, wide-in b, b .pre .3), omega (arith, b .pre .2, b .pre .4))
 
 mul-wide : tie.Need-mul-wide
-mul-wide c = omega (arith, wide-in (c .before .before .before .before .before .before .before .before .before .before .before))
+mul-wide c =
+    let s : tie.Start = search in
+    omega (arith, wide-in (s))
 
 kind-of-requires : tie.Need-kind-of-requires
 kind-of-requires c κs = search needs
 
 slice-reshare-prefix-push : tie.Need-slice-reshare-prefix-push
-slice-reshare-prefix-push c = in-firsts (c .before .before .before .before .before)
+slice-reshare-prefix-push c =
+    let at-unpack : tie.After-unpack = search in
+    in-firsts (at-unpack)
 
 slice-aggregate-push : tie.Need-slice-aggregate-push
-slice-aggregate-push c = sym (length-take-le _ _ (in-firsts (c .before .before .before .before .before .before)))
+slice-aggregate-push c =
+    let at-unpack : tie.After-unpack = search in
+    sym (length-take-le _ _ (in-firsts (at-unpack)))
 
 slice-reshare-prefix-push-2 : tie.Need-slice-reshare-prefix-push-2
 slice-reshare-prefix-push-2 c = search needs
 
 slice-aggregate-push-2 : tie.Need-slice-aggregate-push-2
-slice-aggregate-push-2 c = sym (length-take-le _ _ (in-seconds (c .before .before .before .before .before .before .before)))
+slice-aggregate-push-2 c =
+    let at-unpack : tie.After-unpack = search in
+    sym (length-take-le _ _ (in-seconds (at-unpack)))
 
 push-requires : tie.Need-push-requires
 push-requires c κs =
+    let s : tie.Start = search in
+    let at-unpack : tie.After-unpack = search in
     let k = c .before .before .before in
-    let u = k .before .before .before .before .before in
-    let b = u .before .before .before .before .before .before .before in
+    let u = at-unpack in
+    let b = s in
     let a = b .args in
     let n = a .n in
     let xs = a .rules .now in
@@ -64,10 +79,13 @@ same-length-3 c = search needs
 
 returns : tie.Need-returns
 returns c =
+    let s : tie.Start = search in
+    let at-kind-of : tie.After-kind-of = search in
+    let at-unpack : tie.After-unpack = search in
     let q = c .before .before in
-    let k = q .before .before .before .before in
-    let u = k .before .before .before .before .before in
-    let b = u .before .before .before .before .before .before .before in
+    let k = at-kind-of in
+    let u = at-unpack in
+    let b = s in
     let a = b .args in
     let n = a .n in
     let xs = a .rules .now in

@@ -12,12 +12,14 @@ use Rattle.adding.proofs.synthesize_lookup.Tie as tie
 
 returns : tie.Need-returns
 returns c =
-    let a = c .before .before .before .before .before .before .args in
+    let s : tie.Start = search in
+    let a = s .args in
     rw (eq-eqb (a .mask) 0 (c .if1 .taken)) (none-added (most (kindOf (a .n))) (a .draft) (a .scratch .now))
 
 returns-2 : tie.Need-returns-2
 returns-2 c =
-    let a = c .before .before .before .before .before .before .before .args in
+    let s : tie.Start = search in
+    let a = s .args in
     rw (ne-eqb (a .mask) 0 (c .before .if1 .left))
     (none-without-codes (a .codes .now) (a .glyphs .now) (c .if2 .taken) (sourceOf (a .count) (a .n) (a .each) (a .k) (a .components .now) (a .ligatures .now)) (a .mask) (a .flags) (a .draft) (a .scratch .now))
 
@@ -32,9 +34,11 @@ same-length c = search needs
 
 returns-3 : tie.Need-returns-3
 returns-3 c =
+    let start : tie.Start = search in
+    let at-else1 : tie.Else1 = search in
     let s = c .before .before .before in
-    let e = s .before .before .before .before in
-    rw (ne-eqb (e .before .before .before .before .before .before .args .mask) 0 (e .if1 .left)) (s .synthesize-in .ensures)
+    let e = at-else1 in
+    rw (ne-eqb (start .args .mask) 0 (e .if1 .left)) (s .synthesize-in .ensures)
 
 pub synthesize-lookup-spec : {M : Type 1} → statement M
 synthesize-lookup-spec =

@@ -22,16 +22,20 @@ same-length c = search needs
 
 returns : tie.Need-returns
 returns c =
-    let a = c .before .before .before .before .before .before .before .before .before .before .before .args in
-    answered (a .told) (a .codes .now) (a .widths .now) (a .types .now) (a .categories .now) (a .out .now) (rw (c .before .before .before .before .enum-told .given .1) (c .before .before .unreadable .ensures))
+    let s : tie.Start = search in
+    let at-enum-told : tie.After-enum-told = search in
+    let a = s .args in
+    answered (a .told) (a .codes .now) (a .widths .now) (a .types .now) (a .categories .now) (a .out .now) (rw (at-enum-told .enum-told .given .1) (c .before .before .unreadable .ensures))
 
 same-length-2 : tie.Need-same-length-2
 same-length-2 c = search needs
 
 returns-2 : tie.Need-returns-2
 returns-2 c =
-    let a = c .before .before .before .before .before .before .before .before .before .before .before .before .args in
-    answered (a .told) (a .codes .now) (a .widths .now) (a .types .now) (a .categories .now) (a .out .now) (rw (c .before .before .before .before .before .told .given .1) (c .before .before .lend .ensures))
+    let s : tie.Start = search in
+    let at-told : tie.After-told = search in
+    let a = s .args in
+    answered (a .told) (a .codes .now) (a .widths .now) (a .types .now) (a .categories .now) (a .out .now) (rw (at-told .told .given .1) (c .before .before .lend .ensures))
 
 pub answer-spec : {M : Type 1} → statement M
 answer-spec =

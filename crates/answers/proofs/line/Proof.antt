@@ -39,14 +39,18 @@ same-length-3 c = search needs
 
 returns : tie.Need-returns
 returns c =
-    let k = c .before .before .before .before .before .before .before .before .before .before .before .before .before .before .before .before .before .before .before .before .before .before .before .before .before in
+    let s : tie.Start = search in
+    let at-then1 : tie.Then1 = search in
+    let at-number : tie.After-number = search in
+    let at-join-line : tie.After-join-line = search in
+    let k = s in
     let a = k .args in
-    let n = c .before .before .before .before .before .number in
+    let n = at-number .number in
     c .before .before .refused .ensures
     ∙ ap (filled (a .out .now))
     (line-refused (a .codes .now) (a .widths .now) (a .types .now) (a .categories .now) (a .base .now) (a .actions .now) (a .masks .now) (k .pre) (n .result) _ _ (n .ensures)
-    (c .before .before .before .before .before .before .before .before .before .before .join-line .ensures)
-    (c .before .before .before .before .if1 .taken))
+    (at-join-line .join-line .ensures)
+    (at-then1 .if1 .taken))
 
 print-requires : tie.Need-print-requires
 print-requires c κs = search needs
@@ -62,14 +66,18 @@ same-length-6 c = search needs
 
 returns-2 : tie.Need-returns-2
 returns-2 c =
-    let k = c .before .before .before .before .before .before .before .before .before .before .before .before .before .before .before .before .before .before .before .before .before .before .before .before .before .before in
+    let s : tie.Start = search in
+    let at-else1 : tie.Else1 = search in
+    let at-number : tie.After-number = search in
+    let at-join-line : tie.After-join-line = search in
+    let k = s in
     let a = k .args in
-    let n = c .before .before .before .before .before .before .number in
+    let n = at-number .number in
     c .before .before .print .ensures
     ∙ ap (filled (a .out .now))
     (line-accepted (a .codes .now) (a .widths .now) (a .types .now) (a .categories .now) (a .base .now) (a .actions .now) (a .masks .now) (k .pre) (n .result) _ _ (n .ensures)
-    (c .before .before .before .before .before .before .before .before .before .before .before .join-line .ensures)
-    (c .before .before .before .before .before .if1 .left))
+    (at-join-line .join-line .ensures)
+    (at-else1 .if1 .left))
 
 pub line-spec : {M : Type 1} → statement M
 line-spec =

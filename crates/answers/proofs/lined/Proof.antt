@@ -21,7 +21,8 @@ few c = rw (← (roomy (c .before))) (c .if1 .taken)
 
 holds : (c : tie.Then1) → let a = c .before .before .before .before .before .before .before .before .before .before .before .before .before .args in Holds (a .n) (a .codes .now) (a .widths .now) (a .types .now) (a .categories .now)
 holds c =
-    let a = c .before .before .before .before .before .before .before .before .before .before .before .before .before .args in
+    let s : tie.Start = search in
+    let a = s .args in
     room-holds (a .n) (a .codes .now) (a .widths .now) (a .types .now) (a .categories .now) (few c)
 
 shorter-requires : tie.Need-shorter-requires
@@ -38,50 +39,63 @@ shorter-requires-4 c κs = search needs
 
 slice-aggregate-line : tie.Need-slice-aggregate-line
 slice-aggregate-line c =
-    let a = c .before .before .before .before .before .before .before .before .before .before .before .before .before .before .args in
+    let s : tie.Start = search in
+    let a = s .args in
     sym (length-take-le (a .n) (a .codes .now) (holds (c .before) .codes))
 
 slice-aggregate-line-2 : tie.Need-slice-aggregate-line-2
 slice-aggregate-line-2 c =
-    let a = c .before .before .before .before .before .before .before .before .before .before .before .before .before .before .before .args in
+    let s : tie.Start = search in
+    let a = s .args in
     sym (length-take-le (a .n) (a .widths .now) (holds (c .before .before) .widths))
 
 slice-aggregate-line-3 : tie.Need-slice-aggregate-line-3
 slice-aggregate-line-3 c =
-    let a = c .before .before .before .before .before .before .before .before .before .before .before .before .before .before .before .before .args in
+    let s : tie.Start = search in
+    let a = s .args in
     sym (length-take-le (a .n) (a .types .now) (holds (c .before .before .before) .types))
 
 slice-aggregate-line-4 : tie.Need-slice-aggregate-line-4
 slice-aggregate-line-4 c =
-    let a = c .before .before .before .before .before .before .before .before .before .before .before .before .before .before .before .before .before .args in
-    sym (length-take-le (a .n) (a .categories .now) (holds (c .before .before .before .before) .categories))
+    let s : tie.Start = search in
+    let at-then1 : tie.Then1 = search in
+    let a = s .args in
+    sym (length-take-le (a .n) (a .categories .now) (holds (at-then1) .categories))
 
 slice-aggregate-line-5 : tie.Need-slice-aggregate-line-5
 slice-aggregate-line-5 c =
-    let a = c .before .before .before .before .before .before .before .before .before .before .before .before .before .before .before .before .before .before .args in
-    sym (length-take-le (a .n) (a .base .now) (omega (arith, holds (c .before .before .before .before .before) .few, c .before .before .before .before .before .before .before .before .before .before .before .before .before .before .before .before .before .before .pre .0)))
+    let s : tie.Start = search in
+    let at-then1 : tie.Then1 = search in
+    let a = s .args in
+    sym (length-take-le (a .n) (a .base .now) (omega (arith, holds (at-then1) .few, s .pre .0)))
 
 slice-relend-prefix-line : tie.Need-slice-relend-prefix-line
 slice-relend-prefix-line c = search needs
 
 slice-aggregate-line-6 : tie.Need-slice-aggregate-line-6
 slice-aggregate-line-6 c =
-    let a = c .before .before .before .before .before .before .before .before .before .before .before .before .before .before .before .before .before .before .before .args in
-    sym (length-take-le (a .n) (a .actions .now) (omega (arith, holds (c .before .before .before .before .before .before) .few, c .before .before .before .before .before .before .before .before .before .before .before .before .before .before .before .before .before .before .before .pre .1)))
+    let s : tie.Start = search in
+    let at-then1 : tie.Then1 = search in
+    let a = s .args in
+    sym (length-take-le (a .n) (a .actions .now) (omega (arith, holds (at-then1) .few, s .pre .1)))
 
 slice-relend-prefix-line-2 : tie.Need-slice-relend-prefix-line-2
 slice-relend-prefix-line-2 c = search needs
 
 slice-aggregate-line-7 : tie.Need-slice-aggregate-line-7
 slice-aggregate-line-7 c =
-    let a = c .before .before .before .before .before .before .before .before .before .before .before .before .before .before .before .before .before .before .before .before .args in
-    sym (length-take-le (a .n) (a .masks .now) (omega (arith, holds (c .before .before .before .before .before .before .before) .few, c .before .before .before .before .before .before .before .before .before .before .before .before .before .before .before .before .before .before .before .before .pre .2)))
+    let s : tie.Start = search in
+    let at-then1 : tie.Then1 = search in
+    let a = s .args in
+    sym (length-take-le (a .n) (a .masks .now) (omega (arith, holds (at-then1) .few, s .pre .2)))
 
 line-requires : tie.Need-line-requires
 line-requires c κs =
-    let k = c .before .before .before .before .before .before .before .before .before .before .before .before .before .before .before .before .before .before .before .before .before in
+    let s : tie.Start = search in
+    let at-then1 : tie.Then1 = search in
+    let k = s in
     let a = k .args in
-    even-front (a .n) (a .codes .now) (a .widths .now) (a .types .now) (a .categories .now) (a .base .now) (a .actions .now) (a .masks .now) (holds (c .before .before .before .before .before .before .before .before)) (k .pre .0) (k .pre .1) (k .pre .2)
+    even-front (a .n) (a .codes .now) (a .widths .now) (a .types .now) (a .categories .now) (a .base .now) (a .actions .now) (a .masks .now) (holds (at-then1)) (k .pre .0) (k .pre .1) (k .pre .2)
 
 same-length : tie.Need-same-length
 same-length c = search needs
@@ -94,7 +108,10 @@ same-length-3 c = search needs
 
 returns : tie.Need-returns
 unfolding linesText
-returns c = rw (le-leb _ _ (few (c .before .before .before .before .before .before .before .before .before .before .before .before .before .before .before))) (c .before .before .before .before .before .before .line .ensures)
+returns c =
+    let at-line : tie.After-line = search in
+    let at-then1 : tie.Then1 = search in
+    rw (le-leb _ _ (few (at-then1))) (at-line .line .ensures)
 
 refused-requires : tie.Need-refused-requires
 refused-requires c κs = search needs
@@ -104,7 +121,10 @@ same-length-4 c = search needs
 
 returns-2 : tie.Need-returns-2
 unfolding linesText
-returns-2 c = rw (← (roomy (c .before .before .before .before .before)), lt-leb _ _ (c .before .before .before .before .if1 .left)) (c .before .before .refused .ensures)
+returns-2 c =
+    let at-else1 : tie.Else1 = search in
+    let at-shorter4 : tie.After-shorter4 = search in
+    rw (← (roomy (at-shorter4)), lt-leb _ _ (at-else1 .if1 .left)) (c .before .before .refused .ensures)
 
 pub lined-spec : {M : Type 1} → statement M
 lined-spec =

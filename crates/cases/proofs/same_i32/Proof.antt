@@ -44,10 +44,11 @@ shared-slice-copy-out-if2 c = search needs
 
 returns-2 : tie.Need-returns-2 Inv-loop μ-loop
 returns-2 c =
+    let start : tie.Start Inv-loop μ-loop = search in
     let s = c .before .before in
     let n = s .before in
     let l = n .before .before in
-    let got = l .before .before .before .before .before .args .got .now in
+    let got = start .args .got .now in
     found-compared _ (found _ _ _ _ _ (l .before .before .find .ensures))
     (passed-off (n .before .loop-test .taken) (rw length-map (omega arith)) (n .u32-at .ensures)
     (λ q. c .if2 .taken (bits-back (record { fits = n .u32-at .ok }) (s .signed .ensures) ∙ q ∙ List·getD-map (ofZ w32) got (l .loop .i) (pos 0)))
@@ -64,10 +65,11 @@ loop-less c = search needs
 
 loop-again : tie.Need-loop-again Inv-loop μ-loop
 loop-again c =
+    let start : tie.Start Inv-loop μ-loop = search in
     let s = c .before .before in
     let n = s .before in
     let l = n .before .before in
-    let got = l .before .before .before .before .before .args .got .now in
+    let got = start .args .got .now in
     passed-equal (n .before .loop-test .taken) (rw length-map (omega arith)) (n .u32-at .ensures)
     (sym (bits-back (record { fits = n .u32-at .ok }) (s .signed .ensures)) ∙ c .if2 .left ∙ sym (List·getD-map (ofZ w32) got (l .loop .i) (pos 0)))
     (l .loop .inv)

@@ -16,8 +16,9 @@ same-requires c κs = search needs
 
 returns : tie.Need-returns
 returns c =
+    let s : tie.Start = search in
     let v = c .before .view-u8 in
-    let got = c .before .before .before .before .before .args .got .now in
+    let got = s .args .got .now in
     ap (λ (b : Bool). Compare b (v .last .1 .0)) (same-told (v .result .now) got (c .same .result) (c .same .ensures)) ∙ ap (against got) (v .ensures)
 
 pub same-u8-spec : {M : Type 1} → statement M

@@ -20,7 +20,8 @@ shared-slice-read-result c = search needs
 -- an element of a slice of bytes
 small : (c : tie.After-shared-slice-known2) → let a = c .before .before .before .before .args in getD (a .bytes .now) (a .at + a .i) 0 < 256
 small c =
-    let a = c .before .before .before .before .args in
+    let s : tie.Start = search in
+    let a = s .args in
     omega (arith, c .shared-slice-known2 .given (a .at + a .i))
 
 cast-result : tie.Need-cast-result

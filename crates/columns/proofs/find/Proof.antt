@@ -24,7 +24,9 @@ cast-count : tie.Need-cast-count
 cast-count c = search needs
 
 mul-bytes : tie.Need-mul-bytes
-mul-bytes c = omega (arith, bytes-few (c .u32-at .result) (c .before .before .before .before .args .width) (search needs) (search needs))
+mul-bytes c =
+    let s : tie.Start = search in
+    omega (arith, bytes-few (c .u32-at .result) (s .args .width) (search needs) (search needs))
 
 add-if2 : tie.Need-add-if2
 add-if2 c = search needs
@@ -36,9 +38,11 @@ shared-slice-read-if2 c = search needs
 held : (c : tie.Then2) → let a = c .before .before .before .before .before .before .args in let n = c .before .before .u32-at .result in
     (getD (a .body .now) (a .at + 4) 0 ≡ a .width) × (n * a .width ≤ c .before .before .before .before .left .result - 5) × (n ≤ a .most)
 held c =
-    let a = c .before .before .before .before .before .before .args in
+    let s : tie.Start = search in
+    let at-left : tie.After-left = search in
+    let a = s .args in
     let n = c .before .before .u32-at .result in
-    tests-hold (getD (a .body .now) (a .at + 4) 0) (a .width) (n * a .width) (c .before .before .before .before .left .result - 5) n (a .most) (c .if2 .taken)
+    tests-hold (getD (a .body .now) (a .at + 4) 0) (a .width) (n * a .width) (at-left .left .result - 5) n (a .most) (c .if2 .taken)
 
 add-from : tie.Need-add-from
 add-from c = search needs
@@ -48,16 +52,19 @@ add-t19 c = omega (arith, held c)
 
 returns-2 : tie.Need-returns-2
 returns-2 c =
-    let a = c .before .before .before .before .before .before .args in
+    let s : tie.Start = search in
+    let a = s .args in
     span-whole (a .body .now) (a .width) (a .most) (a .at) (c .before .before .u32-at .ensures) (held c .0) (omega (arith, held c)) (held c .2)
 
 returns-3 : tie.Need-returns-3
 returns-3 c =
-    let a = c .before .before .before .before .before .before .args in
+    let s : tie.Start = search in
+    let at-left : tie.After-left = search in
+    let a = s .args in
     let n = c .before .before .u32-at in
     span-none (a .body .now) (a .width) (a .most) (a .at)
     (λ f.
-    tests-fail (getD (a .body .now) (a .at + 4) 0) (a .width) (n .result * a .width) (c .before .before .before .before .left .result - 5) (n .result) (a .most)
+    tests-fail (getD (a .body .now) (a .at + 4) 0) (a .width) (n .result * a .width) (at-left .left .result - 5) (n .result) (a .most)
     (c .if2 .left)
     (f .width)
     (omega (arith, rw (← (n .ensures)) at (f .inside)))

@@ -13,9 +13,10 @@ use Rattle.columns.proofs.take_u8.Tie as tie
 -- the front of the room once it is copied to
 front : (c : tie.After-out2) → let k = c .before .before .before in take (k .copy .result) (k .copy .last .1 .0) ≡ k .before .before .view-u8 .result .now
 front c =
+    let s : tie.Start = search in
     let k = c .before .before .before in
     let src : List ℕ = k .before .before .view-u8 .result .now in
-    let dst : List ℕ = k .before .before .before .before .before .before .args .out .now in
+    let dst : List ℕ = s .args .out .now in
     let e : k .copy .last .1 .0 ≡ take (length src) src ++ drop (length src) dst = k .copy .ensures .1 in
     ap (take (k .copy .result)) e ∙ copied-front src dst (k .copy .result) (k .copy .ensures .0)
 
@@ -24,7 +25,8 @@ view-u8-requires c κs = search needs
 
 copy-requires : tie.Need-copy-requires
 copy-requires c κs =
-    let a = c .before .before .before .before .before .args in
+    let s : tie.Start = search in
+    let a = s .args in
     taken-few (a .body .now) 1 (length (a .out .now)) (a .at .now) _ _ (c .before .view-u8 .ensures)
 
 slice-aggregate-result : tie.Need-slice-aggregate-result
@@ -32,7 +34,8 @@ slice-aggregate-result c = c .before .before .before .copy .ensures .0 ∙ sym (
 
 returns : tie.Need-returns
 returns c =
-    let v = c .before .before .before .before .before .view-u8 in
+    let at-view-u8 : tie.After-view-u8 = search in
+    let v = at-view-u8 .view-u8 in
     ap (λ (l : List ℕ). Took l (v .last .1 .0)) (front c) ∙ v .ensures
 
 pub take-u8-spec : {M : Type 1} → statement M

@@ -23,9 +23,10 @@ part-result-end c = omega (arith, found _ _ _ _ _ (c .before .find .ensures) .in
 
 returns : tie.Need-returns
 returns c =
+    let s : tie.Start = search in
     let f = c .before .before .find in
     let g = found _ _ _ _ _ (f .ensures) in
-    rw (bytes-are (c .before .before .before .before .before .args .body .now) (f .result .from) (f .result .count) (omega (arith, g .inside))) (g .is)
+    rw (bytes-are (s .args .body .now) (f .result .from) (f .result .count) (omega (arith, g .inside))) (g .is)
 
 pub view-u8-spec : {M : Type 1} → statement M
 view-u8-spec =

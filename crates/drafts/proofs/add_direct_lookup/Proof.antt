@@ -9,7 +9,8 @@ use Rattle.drafts.proofs.add_direct_lookup.Tie as tie
 
 returns : tie.Need-returns
 returns c =
-    let a = c .before .before .before .before .args in
+    let s : tie.Start = search in
+    let a = s .args in
     rw (eq-eqb (a .mask) 0 (c .if1 .taken)) (none-added (most (a .kind)) (a .draft) (a .scratch .now))
 
 push-requires : tie.Need-push-requires
@@ -20,8 +21,10 @@ same-length c = search needs
 
 returns-2 : tie.Need-returns-2
 returns-2 c =
-    let e = c .before .before .before .before in
-    rw (ne-eqb (e .before .before .before .before .args .mask) 0 (e .if1 .left)) (c .before .before .push .ensures)
+    let s : tie.Start = search in
+    let at-else1 : tie.Else1 = search in
+    let e = at-else1 in
+    rw (ne-eqb (s .args .mask) 0 (e .if1 .left)) (c .before .before .push .ensures)
 
 pub add-direct-lookup-spec : {M : Type 1} → statement M
 add-direct-lookup-spec = tie.close (tie.spec returns push-requires same-length returns-2)

@@ -24,8 +24,9 @@ fit b =
 -- the bytes of the lookup go into what is lent
 in-scratch : (k : tie.After-length) → k .before .before .before .before .before .before .before .before .args .draft .end + k .length .result ≤ length (k .before .before .before .before .before .before .before .before .args .scratch .now)
 in-scratch k =
+    let start : tie.Start = search in
     let s = k .before .before .before in
-    let b = s .before .before .before .before .before in
+    let b = start in
     let a = b .args in
     let l = lookupOf (a .flags) (a .kind) (a .glyphs .now) (a .substitutes .now) in
     let g = fit (s .before .before) in
@@ -48,11 +49,14 @@ length-requires : tie.Need-length-requires
 length-requires c κs = search needs
 
 cast-with : tie.Need-cast-with
-cast-with c = omega (arith, in-scratch c, c .before .before .before .before .before .before .before .before .pre .bounded)
+cast-with c =
+    let s : tie.Start = search in
+    omega (arith, in-scratch c, s .pre .bounded)
 
 with-requires : tie.Need-with-requires
 with-requires c κs =
-    let p = c .before .before .before .before .before .before .before .before .pre in
+    let s : tie.Start = search in
+    let p = s .pre in
     (p .place, omega (arith, in-scratch c, p .bounded))
 
 same-length : tie.Need-same-length
@@ -60,9 +64,10 @@ same-length c = search needs
 
 returns : tie.Need-returns
 returns c =
+    let start : tie.Start = search in
     let k = c .before in
     let s = k .before .before .before in
-    let b = s .before .before .before .before .before in
+    let b = start in
     let a = b .args in
     let g = fit (s .before .before) in
     pushed (lookupOf (a .flags) (a .kind) (a .glyphs .now) (a .substitutes .now)) (a .mask) (a .draft) (a .scratch .now) (g .inside) (s .serialize .result) (s .serialize .last .1 .1 .1 .1 .0) (g .free) (s .serialize .ensures) (b .pre .place) (most (a .kind)) (g .short) (c .with .result) (c .with .ensures ∙ ap (noted (a .draft) (a .mask)) (k .length .ensures))

@@ -20,13 +20,17 @@ same-length : tie.Need-same-length
 same-length c = search needs
 
 returns : tie.Need-returns
-returns c = rw (c .before .before .before .before .enum-told .given .1) (c .before .before .serialize-single-lookup .ensures)
+returns c =
+    let at-enum-told : tie.After-enum-told = search in
+    rw (at-enum-told .enum-told .given .1) (c .before .before .serialize-single-lookup .ensures)
 
 same-length-2 : tie.Need-same-length-2
 same-length-2 c = search needs
 
 returns-2 : tie.Need-returns-2
-returns-2 c = rw (c .before .before .before .before .before .kind .given .1) (c .before .before .serialize-ligature-lookup .ensures)
+returns-2 c =
+    let at-kind : tie.After-kind = search in
+    rw (at-kind .kind .given .1) (c .before .before .serialize-ligature-lookup .ensures)
 
 pub serialize-spec : {M : Type 1} → statement M
 serialize-spec =

@@ -14,7 +14,9 @@ byte-requires c κs = search needs
 
 returns-2 : tie.Need-returns-2
 unfolding parted
-returns-2 c = rw (c .before .before .before .before .if1 .left, c .before .if2 .taken, c .byte .ensures)
+returns-2 c =
+    let at-else1 : tie.Else1 = search in
+    rw (at-else1 .if1 .left, c .before .if2 .taken, c .byte .ensures)
 
 returns-3 : tie.Need-returns-3
 unfolding parted

@@ -22,7 +22,9 @@ both s e = (e, λ n l h. e ∙ ap saidBy h ∙ line-said n l)
 
 returns : tie.Need-returns
 unfolding saidBy
-returns c = both (c .before .before .before .before .args .s) (rw (c .before .if1 .taken, c .byte .ensures))
+returns c =
+    let s : tie.Start = search in
+    both (s .args .s) (rw (c .before .if1 .taken, c .byte .ensures))
 
 returns-2 : tie.Need-returns-2
 unfolding saidBy

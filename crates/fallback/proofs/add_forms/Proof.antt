@@ -24,7 +24,8 @@ new-requires c κs = search needs
 
 loop-holds : tie.Need-loop-holds Inv-loop μ-loop
 loop-holds c =
-    let b = c .before .before .before .before .before .before in
+    let s : tie.Start Inv-loop μ-loop = search in
+    let b = s in
     let z : length (b .args .scratch .now) ≡ 61566 = b .pre .3 in
     (omega arith, rw z at (reached-begin (c .new .result) (b .args .scratch .now) (c .new .ensures)))
 
@@ -36,8 +37,9 @@ array-read-synthesize-lookup c = search needs
 
 synthesize-lookup-requires : tie.Need-synthesize-lookup-requires Inv-loop μ-loop
 synthesize-lookup-requires c κs =
+    let s : tie.Start Inv-loop μ-loop = search in
     let l = c .before .before in
-    let b = l .before .before .before .before .before .before .before in
+    let b = s in
     let k = l .loop .k in
     (b .pre .0, form-lent (b .args .shaping .now) (b .args .forms .now) k (omega arith) (b .pre .1) (b .pre .2), roomy (l .loop .inv .1) Single (omega arith) (omega arith))
 
@@ -49,17 +51,21 @@ loop-less c = search needs
 
 loop-again : tie.Need-loop-again Inv-loop μ-loop
 loop-again c =
+    let s : tie.Start Inv-loop μ-loop = search in
     let q = c .before .before in
     let l = q .before .before .before in
-    let a = l .before .before .before .before .before .before .before .args in
+    let a = s .args in
     (omega arith, form-more (a .t1) (fontOf (a .codes .now) (a .glyphs .now)) (a .shaping .now) (a .forms .now) (l .loop .k) 61566 (l .loop .inv .1) (q .synthesize-lookup .ensures) (q .synthesize-lookup .kept .1 .1 .1 .1 .1 .1 .1 .1 .1 .1 .1 .0))
 
 same-length : tie.Need-same-length Inv-loop μ-loop
-same-length c = omega (arith, c .before .loop .inv .1 .sized, c .before .before .before .before .before .before .before .before .pre .3)
+same-length c =
+    let s : tie.Start Inv-loop μ-loop = search in
+    omega (arith, c .before .loop .inv .1 .sized, s .pre .3)
 
 returns : tie.Need-returns Inv-loop μ-loop
 returns c =
-    let a = c .before .before .before .before .before .before .before .before .args in
+    let s : tie.Start Inv-loop μ-loop = search in
+    let a = s .args in
     let l = c .before .loop in
     forms-made (a .t1) (fontOf (a .codes .now) (a .glyphs .now)) (a .shaping .now) (a .forms .now) (l .k) 61566 (l .inv .0) (c .loop-test .left) (l .inv .1)
 

@@ -32,17 +32,24 @@ abbrev to-twos : Inputs → List Entry
 to-twos i = to-threes i ++ ligated i ignoreMarks 2 (i .twos)
 
 after-threes : (k : tie.After-synthesize-lookup) → Reached (to-threes (inputs (k .before .before .before .before .before .before .before .before .before .before .before .before .before .before .before .before .before))) 5 32858 61566 (k .synthesize-lookup .result) (k .synthesize-lookup .last .1 .1 .1 .1 .1 .1 .1 .1 .1 .1 .1 .0)
-after-threes k = reached-more (k .before .before .before .before .add-forms .ensures) (k .synthesize-lookup .ensures) (k .synthesize-lookup .kept .1 .1 .1 .1 .1 .1 .1 .1 .1 .1 .1 .0)
+after-threes k =
+    let at-add-forms : tie.After-add-forms = search in
+    reached-more (at-add-forms .add-forms .ensures) (k .synthesize-lookup .ensures) (k .synthesize-lookup .kept .1 .1 .1 .1 .1 .1 .1 .1 .1 .1 .1 .0)
 
 after-twos : (k : tie.After-synthesize-lookup2) → Reached (to-twos (inputs (k .before .before .before .before .before .before .before .before .before .before .before .before .before .before .before .before .before .before .before .before .before))) 6 47212 61566 (k .synthesize-lookup2 .result) (k .synthesize-lookup2 .last .1 .1 .1 .1 .1 .1 .1 .1 .1 .1 .1 .0)
-after-twos k = reached-more (after-threes (k .before .before .before .before)) (k .synthesize-lookup2 .ensures) (k .synthesize-lookup2 .kept .1 .1 .1 .1 .1 .1 .1 .1 .1 .1 .1 .0)
+after-twos k =
+    let at-synthesize-lookup : tie.After-synthesize-lookup = search in
+    reached-more (after-threes (at-synthesize-lookup)) (k .synthesize-lookup2 .ensures) (k .synthesize-lookup2 .kept .1 .1 .1 .1 .1 .1 .1 .1 .1 .1 .1 .0)
 
 after-marks : (k : tie.After-synthesize-lookup3) → Reached (to-twos (inputs (k .before .before .before .before .before .before .before .before .before .before .before .before .before .before .before .before .before .before .before .before .before .before .before .before .before)) ++ ligated (inputs (k .before .before .before .before .before .before .before .before .before .before .before .before .before .before .before .before .before .before .before .before .before .before .before .before .before)) 0 2 (inputs (k .before .before .before .before .before .before .before .before .before .before .before .before .before .before .before .before .before .before .before .before .before .before .before .before .before) .marks)) 7 61566 61566 (k .synthesize-lookup3 .result) (k .synthesize-lookup3 .last .1 .1 .1 .1 .1 .1 .1 .1 .1 .1 .1 .0)
-after-marks k = reached-more (after-twos (k .before .before .before .before)) (k .synthesize-lookup3 .ensures) (k .synthesize-lookup3 .kept .1 .1 .1 .1 .1 .1 .1 .1 .1 .1 .1 .0)
+after-marks k =
+    let at-synthesize-lookup2 : tie.After-synthesize-lookup2 = search in
+    reached-more (after-twos (at-synthesize-lookup2)) (k .synthesize-lookup3 .ensures) (k .synthesize-lookup3 .kept .1 .1 .1 .1 .1 .1 .1 .1 .1 .1 .1 .0)
 
 add-forms-requires : tie.Need-add-forms-requires
 add-forms-requires c κs =
-    let b = c .before .before .before .before .before .before .before .before .before .before .before .before in
+    let s : tie.Start = search in
+    let b = s in
     let t = tests b in
     (t .sound, t .four, t .few-shaping, b .pre .sized)
 
@@ -51,7 +58,8 @@ array-read-synthesize-lookup c = search needs
 
 synthesize-lookup-requires : tie.Need-synthesize-lookup-requires
 synthesize-lookup-requires c κs =
-    let b = c .before .before .before .before .before .before .before .before .before .before .before .before .before .before .before .before in
+    let s : tie.Start = search in
+    let b = s in
     let t = tests b in
     (t .sound, list-lent 3 (inputs b .threes) (omega arith) (omega arith) (t .three) (t .few-threes), roomy (c .before .before .before .add-forms .ensures) (Ligature 3) (omega arith) (omega arith))
 

@@ -38,14 +38,17 @@ returns c =
 
 new-win1256-requires : tie.Need-new-win1256-requires
 new-win1256-requires c κs =
-    let u = c .before .before .before .before .before in
-    let b = u .before .before .before .before .before .before .before .before .before .before .before .before .before .before in
+    let s : tie.Start = search in
+    let at-new-unicode : tie.After-new-unicode = search in
+    let u = at-new-unicode in
+    let b = s in
     let z = u .new-unicode .ensures .sized in
     (passed (inputs b) (b .pre .tested) .sound, omega (arith, z), omega (arith, z))
 
 settle-requires-2 : tie.Need-settle-requires-2
 settle-requires-2 c κs =
-    let w = c .before .before .before .before in
+    let at-new-win1256 : tie.After-new-win1256 = search in
+    let w = at-new-win1256 in
     drafted-inside (w .new-win1256 .result) (w .new-win1256 .last .1 .1 .1 .0) (w .new-win1256 .ensures)
 
 same-length-3 : tie.Need-same-length-3

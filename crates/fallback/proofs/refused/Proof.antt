@@ -40,6 +40,7 @@ sooner-requires-2 c κs = search needs
 
 returns : tie.Need-returns
 returns c =
+    let s : tie.Start = search in
     let n = c .before in
     let r = n .before in
     let v = r .before in
@@ -48,7 +49,7 @@ returns c =
     let g = f .before in
     let h = g .before in
     let k = h .before in
-    let a = k .before .before .before .before .before .before .before .before .before .before .before .args in
+    let a = s .args in
     let i = inputsOf [] (a .codes .now) (a .glyphs .now) (a .shaping .now) (a .forms .now) (a .three-components .now) (a .three-ligatures .now) (a .two-components .now) (a .two-ligatures .now) (a .mark-components .now) (a .mark-ligatures .now) in
     rw
     (c .sooner2 .ensures, n .sooner .ensures, r .rising .ensures, v .unless2 .ensures, u .unless .ensures, f .flat4 .ensures, g .flat3 .ensures, h .flat2 .ensures, k .flat .ensures)

@@ -22,7 +22,8 @@ same-length c = search needs
 
 returns-2 : tie.Need-returns-2
 returns-2 c =
-    let k = c .before .before .before .before in
+    let at-copy-bytes : tie.After-copy-bytes = search in
+    let k = at-copy-bytes in
     let e = k .before .before in
     let a = e .before .before .before .args in
     put-in (a .draft) (a .scratch .now) (a .area .now) (e .if1 .left) (k .copy-bytes .last .1 .1 .1 .0) (k .copy-bytes .ensures)

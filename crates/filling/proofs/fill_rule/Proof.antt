@@ -50,19 +50,29 @@ returns c =
     two-filled u ∙ rule-filled (a .lead) (a .bytes .now) (a .at) (a .x) (a .components .now) (a .n) 1 (c .if1 .taken)
 
 add-u16-at-2 : tie.Need-add-u16-at-2
-add-u16-at-2 c = omega (arith, c .before .before .before .before .pre .0, c .before .before .before .before .pre .2, c .if1 .left)
+add-u16-at-2 c =
+    let s : tie.Start = search in
+    omega (arith, s .pre .0, s .pre .2, c .if1 .left)
 
 u16-at-requires-2 : tie.Need-u16-at-requires-2
-u16-at-requires-2 c κs = omega (arith, c .before .before .before .before .pre .0, c .before .before .before .before .pre .2, c .if1 .left)
+u16-at-requires-2 c κs =
+    let s : tie.Start = search in
+    omega (arith, s .pre .0, s .pre .2, c .if1 .left)
 
 add-components-2 : tie.Need-add-components-2
-add-components-2 c = omega (arith, c .before .before .before .before .before .pre .0, c .before .before .before .before .before .pre .3, c .before .if1 .left)
+add-components-2 c =
+    let s : tie.Start = search in
+    omega (arith, s .pre .0, s .pre .3, c .before .if1 .left)
 
 mul-components-3 : tie.Need-mul-components-3
-mul-components-3 c = omega (arith, c .before .before .before .before .before .pre .0, c .before .before .before .before .before .pre .3, c .before .if1 .left)
+mul-components-3 c =
+    let s : tie.Start = search in
+    omega (arith, s .pre .0, s .pre .3, c .before .if1 .left)
 
 slice-write-components-3 : tie.Need-slice-write-components-3
-slice-write-components-3 c = simp length-set (omega (arith, c .before .before .before .before .before .pre .0, c .before .before .before .before .before .pre .3, c .before .if1 .left))
+slice-write-components-3 c =
+    let s : tie.Start = search in
+    simp length-set (omega (arith, s .pre .0, s .pre .3, c .before .if1 .left))
 
 same-length-2 : tie.Need-same-length-2
 same-length-2 c = simp length-set

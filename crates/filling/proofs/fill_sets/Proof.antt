@@ -22,8 +22,9 @@ reads-next :
     (c : tie.In-loop Inv-loop μ-loop)
     → (c .before .loop .p + 2 ≤ length (c .before .before .before .before .before .args .bytes .now)) × (c .before .loop .leads + 2 ≤ length (c .before .before .before .before .before .args .bytes .now))
 reads-next c =
+    let start : tie.Start Inv-loop μ-loop = search in
     let l = c .before in
-    let s = l .before .before .before .before in
+    let s = start in
     let a = s .args in
     filling-reads (a .n) (a .s) (a .bytes .now) (a .components .now) (a .ligatures .now) (l .loop .left) (l .loop .leads) (l .loop .p) (l .loop .x) (l .loop .i) (l .loop .components) (l .loop .ligatures) (l .loop .inv)
     (c .loop-test .taken) (omega (arith, s .pre .0 .0)) (s .pre .0 .3)
@@ -35,9 +36,10 @@ fits :
     × ((u .before .before .before .loop .x + u .before .u16-at .result * u .before .before .before .before .before .before .before .args .n ≤ length (u .before .before .before .loop .components))
     × (u .before .before .before .loop .i + u .before .u16-at .result ≤ length (u .before .before .before .loop .ligatures)))
 fits u =
+    let start : tie.Start Inv-loop μ-loop = search in
     let t = u .before .before in
     let l = t .before in
-    let s = l .before .before .before .before in
+    let s = start in
     let a = s .args in
     let f =
     filling-fits (a .n) (a .s) (a .bytes .now) (a .components .now) (a .ligatures .now) (l .loop .left) (l .loop .leads) (l .loop .p) (l .loop .x) (l .loop .i) (l .loop .components) (l .loop .ligatures) (l .loop .inv)
@@ -94,73 +96,89 @@ add-fill-rules-2 c = omega (arith, near c .0)
 
 fill-rules-requires : tie.Need-fill-rules-requires Inv-loop μ-loop
 fill-rules-requires c κs =
+    let start : tie.Start Inv-loop μ-loop = search in
     let u = c .before .before in
-    let s = u .before .before .before .before .before .before .before in
+    let s = start in
     let f = fits u in
     (s .pre .0 .0, s .pre .0 .1, omega (arith, f .0), omega (arith, f .1 .0), omega (arith, f .1 .1))
 
 add-leads-2 : tie.Need-add-leads-2 Inv-loop μ-loop
 add-leads-2 c =
-    let u = c .before .before .before .before .before .before .before in
+    let at-u16-at2 : tie.After-u16-at2 Inv-loop μ-loop = search in
+    let u = at-u16-at2 in
     omega (arith, reads-next (u .before .before) .1)
 
 mul-p-2 : tie.Need-mul-p-2 Inv-loop μ-loop
 mul-p-2 c =
-    let u = c .before .before .before .before .before .before .before in
-    omega (arith, u .before .before .before .before .before .before .before .pre .0 .1)
+    let s : tie.Start Inv-loop μ-loop = search in
+    let at-u16-at2 : tie.After-u16-at2 Inv-loop μ-loop = search in
+    let u = at-u16-at2 in
+    omega (arith, s .pre .0 .1)
 
 add-p-2 : tie.Need-add-p-2 Inv-loop μ-loop
 add-p-2 c =
-    let u = c .before .before .before .before .before .before .before in
-    omega (arith, u .before .before .before .before .before .before .before .pre .0 .1)
+    let s : tie.Start Inv-loop μ-loop = search in
+    let at-u16-at2 : tie.After-u16-at2 Inv-loop μ-loop = search in
+    let u = at-u16-at2 in
+    omega (arith, s .pre .0 .1)
 
 mul-p-3 : tie.Need-mul-p-3 Inv-loop μ-loop
 mul-p-3 c =
-    let u = c .before .before .before .before .before .before .before in
+    let at-u16-at2 : tie.After-u16-at2 Inv-loop μ-loop = search in
+    let u = at-u16-at2 in
     omega (arith, near u .0)
 
 add-p-3 : tie.Need-add-p-3 Inv-loop μ-loop
 add-p-3 c =
-    let u = c .before .before .before .before .before .before .before in
+    let at-u16-at2 : tie.After-u16-at2 Inv-loop μ-loop = search in
+    let u = at-u16-at2 in
     omega (arith, near u .0)
 
 add-p-4 : tie.Need-add-p-4 Inv-loop μ-loop
 add-p-4 c =
-    let u = c .before .before .before .before .before .before .before in
+    let at-u16-at2 : tie.After-u16-at2 Inv-loop μ-loop = search in
+    let u = at-u16-at2 in
     omega (arith, near u .0)
 
 mul-x : tie.Need-mul-x Inv-loop μ-loop
 mul-x c =
-    let u = c .before .before .before .before .before .before .before in
+    let at-u16-at2 : tie.After-u16-at2 Inv-loop μ-loop = search in
+    let u = at-u16-at2 in
     omega (arith, near u .1)
 
 add-x : tie.Need-add-x Inv-loop μ-loop
 add-x c =
-    let u = c .before .before .before .before .before .before .before in
+    let at-u16-at2 : tie.After-u16-at2 Inv-loop μ-loop = search in
+    let u = at-u16-at2 in
     omega (arith, near u .1)
 
 add-i : tie.Need-add-i Inv-loop μ-loop
 add-i c =
-    let u = c .before .before .before .before .before .before .before in
+    let at-u16-at2 : tie.After-u16-at2 Inv-loop μ-loop = search in
+    let u = at-u16-at2 in
     omega (arith, near u .2)
 
 sub-left : tie.Need-sub-left Inv-loop μ-loop
 sub-left c =
-    let u = c .before .before .before .before .before .before .before in
+    let at-u16-at2 : tie.After-u16-at2 Inv-loop μ-loop = search in
+    let u = at-u16-at2 in
     omega (arith, u .before .before .loop-test .taken)
 
 loop-less : tie.Need-loop-less Inv-loop μ-loop
 loop-less c =
-    let u = c .before .before .before .before .before .before .before in
+    let at-u16-at2 : tie.After-u16-at2 Inv-loop μ-loop = search in
+    let u = at-u16-at2 in
     omega (arith, u .before .before .loop-test .taken)
 
 loop-again : tie.Need-loop-again Inv-loop μ-loop
 loop-again c =
-    let f = c .before .before .before .before in
+    let start : tie.Start Inv-loop μ-loop = search in
+    let at-fill-rules : tie.After-fill-rules Inv-loop μ-loop = search in
+    let f = at-fill-rules in
     let u = f .before .before .before in
     let t = u .before .before in
     let l = t .before in
-    let s = l .before .before .before .before in
+    let s = start in
     let a = s .args in
     filling-next (a .n) (a .s) (a .bytes .now) (a .components .now) (a .ligatures .now) (l .loop .left) (l .loop .leads) (l .loop .p) (l .loop .x) (l .loop .i) (l .loop .components) (l .loop .ligatures) (l .loop .inv)
     (t .loop-test .taken) (omega (arith, s .pre .0 .0)) (s .pre .0 .3) (u .before .u16-at .result) (u .u16-at2 .result) (u .before .u16-at .ensures) (u .u16-at2 .ensures) _ _ (f .fill-rules .ensures)
@@ -173,8 +191,9 @@ same-length-2 c = c .before .loop .inv .wide
 
 returns : tie.Need-returns Inv-loop μ-loop
 returns c =
+    let s : tie.Start Inv-loop μ-loop = search in
     let l = c .before in
-    let a = l .before .before .before .before .args in
+    let a = s .args in
     filling-ends (a .n) (a .s) (a .bytes .now) (a .components .now) (a .ligatures .now) (l .loop .left) (l .loop .leads) (l .loop .p) (l .loop .x) (l .loop .i) (l .loop .components) (l .loop .ligatures) (l .loop .inv) (omega (arith, c .loop-test .left))
 
 pub fill-sets-spec : {M : Type 1} → statement M

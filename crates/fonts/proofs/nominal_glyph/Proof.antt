@@ -54,9 +54,10 @@ loop-less c = omega (arith, c .before .before .loop-test .taken)
 
 loop-again : tie.Need-loop-again Inv-loop μ-loop
 loop-again c =
+    let s : tie.Start Inv-loop μ-loop = search in
     let t = c .before .before in
     let l = t .before in
-    searching-next (l .before .before .before .before .before .before .pre .0) (l .loop .inv) (t .loop-test .taken) (c .later2 .ensures)
+    searching-next (s .pre .0) (l .loop .inv) (t .loop-test .taken) (c .later2 .ensures)
 
 mul-if2 : tie.Need-mul-if2 Inv-loop μ-loop
 mul-if2 c = omega (arith, searching-inside (c .before .loop .inv))
@@ -68,20 +69,25 @@ mul-t20 : tie.Need-mul-t20 Inv-loop μ-loop
 mul-t20 c = omega arith
 
 shared-slice-read-t22 : tie.Need-shared-slice-read-t22 Inv-loop μ-loop
-shared-slice-read-t22 c = omega (arith, searching-inside (c .before .before .before .before .loop .inv), c .before .before .before .before .before .before .before .before .before .before .pre .0 .even)
+shared-slice-read-t22 c =
+    let s : tie.Start Inv-loop μ-loop = search in
+    let at-loop : tie.At-loop Inv-loop μ-loop = search in
+    omega (arith, searching-inside (at-loop .loop .inv), s .pre .0 .even)
 
 returns-2 : tie.Need-returns-2 Inv-loop μ-loop
 returns-2 c =
+    let start : tie.Start Inv-loop μ-loop = search in
     let t = c .before in
     let l = t .before .before .before in
-    let s = l .before .before .before .before .before .before in
+    let s = start in
     searching-finds (l .loop .inv) (s .args .glyphs .now) (s .pre .0 .even) (t .if2 .taken)
 
 returns-3 : tie.Need-returns-3 Inv-loop μ-loop
 returns-3 c =
+    let start : tie.Start Inv-loop μ-loop = search in
     let e = c .before .before in
     let l = e .before in
-    let s = l .before .before .before .before .before .before in
+    let s = start in
     searching-ends (l .loop .inv) (s .args .glyphs .now) (omega (arith, e .loop-test .left)) (c .if2 .left)
 
 pub nominal-glyph-spec : {M : Type 1} → statement M

@@ -27,54 +27,72 @@ slice-aggregate-put-words : tie.Need-slice-aggregate-put-words
 slice-aggregate-put-words c = search needs
 
 put-words-requires : tie.Need-put-words-requires
-put-words-requires c κs = omega (arith, long (c .before .before .before .before .before))
+put-words-requires c κs =
+    let s : tie.Start = search in
+    omega (arith, long (s))
 
 slice-aggregate-put-words-2 : tie.Need-slice-aggregate-put-words-2
 slice-aggregate-put-words-2 c = search needs
 
 mul-put-words : tie.Need-mul-put-words
-mul-put-words c = omega (arith, small (c .before .before .before .before .before .before .before .before .before .before))
+mul-put-words c =
+    let s : tie.Start = search in
+    omega (arith, small (s))
 
 add-put-words : tie.Need-add-put-words
 add-put-words c =
-    let p = c .before .before .before .before in
-    omega (arith, small (p .before .before .before .before .before .before), p .put-words .ensures .place)
+    let s : tie.Start = search in
+    let at-put-words : tie.After-put-words = search in
+    let p = at-put-words in
+    omega (arith, small (s), p .put-words .ensures .place)
 
 put-words-requires-2 : tie.Need-put-words-requires-2
 put-words-requires-2 c κs =
-    let p = c .before .before .before .before in
-    omega (arith, long (p .before .before .before .before .before .before), p .put-words .ensures .place, p .put-words .ensures .same)
+    let s : tie.Start = search in
+    let at-put-words : tie.After-put-words = search in
+    let p = at-put-words in
+    omega (arith, long (s), p .put-words .ensures .place, p .put-words .ensures .same)
 
 mul-put-sets : tie.Need-mul-put-sets
 mul-put-sets c = search needs
 
 add-put-sets : tie.Need-add-put-sets
 add-put-sets c =
+    let s : tie.Start = search in
+    let at-put-words : tie.After-put-words = search in
     let q = c .before .before .before in
-    let p = q .before .before .before .before .before in
-    omega (arith, small (p .before .before .before .before .before .before), p .put-words .ensures .place, q .put-words2 .ensures .place)
+    let p = at-put-words in
+    omega (arith, small (s), p .put-words .ensures .place, q .put-words2 .ensures .place)
 
 put-sets-requires : tie.Need-put-sets-requires
 put-sets-requires c κs =
+    let start : tie.Start = search in
+    let at-put-words : tie.After-put-words = search in
     let q = c .before .before .before in
-    let p = q .before .before .before .before .before in
-    let s = p .before .before .before .before .before .before in
+    let p = at-put-words in
+    let s = start in
     (s .pre .0, sets-room (s .args .flags) (s .args .n) (s .args .components .now) (s .args .ligatures .now) (s .args .sets) (s .pre .1) (s .pre .2) (s .pre .3) (p .put-words .ensures) (omega arith) (q .put-words2 .ensures))
 
 same-length : tie.Need-same-length
 same-length c =
+    let start : tie.Start = search in
+    let at-put-words2 : tie.After-put-words2 = search in
+    let at-put-words : tie.After-put-words = search in
     let r = c .before .before in
-    let q = r .before .before .before .before in
-    let p = q .before .before .before .before .before in
-    let s = p .before .before .before .before .before .before in
+    let q = at-put-words2 in
+    let p = at-put-words in
+    let s = start in
     lookup-written (s .args .flags) (s .args .n) (s .args .components .now) (s .args .ligatures .now) (s .args .sets) (s .pre .1) (s .pre .2) (s .pre .3) (p .put-words .ensures) (omega arith) (q .put-words2 .ensures) (r .put-sets .ensures .0) (r .put-sets .ensures .1) .same
 
 returns : tie.Need-returns
 returns c =
+    let start : tie.Start = search in
+    let at-put-words2 : tie.After-put-words2 = search in
+    let at-put-words : tie.After-put-words = search in
     let r = c .before .before in
-    let q = r .before .before .before .before in
-    let p = q .before .before .before .before .before in
-    let s = p .before .before .before .before .before .before in
+    let q = at-put-words2 in
+    let p = at-put-words in
+    let s = start in
     lookup-written (s .args .flags) (s .args .n) (s .args .components .now) (s .args .ligatures .now) (s .args .sets) (s .pre .1) (s .pre .2) (s .pre .3) (p .put-words .ensures) (omega arith) (q .put-words2 .ensures) (r .put-sets .ensures .0) (r .put-sets .ensures .1)
 
 pub put-lookup-spec : {M : Type 1} → statement M

@@ -32,18 +32,21 @@ shared-slice-read-put-u16 c = search needs
 
 put-u16-requires : tie.Need-put-u16-requires
 put-u16-requires c κs =
-    let s = c .before .before .before .before .before in
+    let start : tie.Start = search in
+    let s = start in
     omega (arith, s .pre .2, long s)
 
 cast-put-u16 : tie.Need-cast-put-u16
 cast-put-u16 c =
-    let s = c .before .before .before .before .before .before .before .before in
+    let start : tie.Start = search in
+    let s = start in
     omega (arith, s .pre .0 .high)
 
 put-u16-requires-2 : tie.Need-put-u16-requires-2
 put-u16-requires-2 c κs =
+    let start : tie.Start = search in
     let p = c .before .before .before in
-    let s = p .before .before .before .before .before .before in
+    let s = start in
     omega (arith, s .pre .2, p .put-u16 .ensures .place, p .put-u16 .ensures .same, long s)
 
 mul-put-others : tie.Need-mul-put-others
@@ -51,9 +54,10 @@ mul-put-others c = omega (arith, there (began c))
 
 put-others-requires : tie.Need-put-others-requires
 put-others-requires c κs =
+    let at-put-u16 : tie.After-put-u16 = search in
     let k = c .before in
     let q = k .before .before in
-    let p = q .before .before .before .before in
+    let p = at-put-u16 in
     let s = began k in
     (s .pre .0 .low, s .pre .0 .high, there s, omega (arith, s .pre .2, p .put-u16 .ensures .place, p .put-u16 .ensures .same, q .put-u162 .ensures .place, q .put-u162 .ensures .same, long s))
 
@@ -62,10 +66,11 @@ same-length c = search needs
 
 returns : tie.Need-returns
 returns c =
+    let at-put-u16 : tie.After-put-u16 = search in
     let r = c .before .before in
     let k = r .before .before in
     let q = k .before .before in
-    let p = q .before .before .before .before in
+    let p = at-put-u16 in
     let s = began k in
     rule-written (s .args .n) (s .args .components .now) (s .args .ligatures .now) (s .args .k) (s .pre .2) (p .put-u16 .ensures) (q .put-u162 .ensures) (r .put-others .ensures)
 

@@ -30,18 +30,25 @@ cast-put-u16 c =
     omega (arith, count-fits (s .args .n) (s .args .components .now) (s .args .ligatures .now) (s .args .i) (s .args .e) (s .pre .2) (s .pre .3))
 
 put-u16-requires : tie.Need-put-u16-requires Inv-loop μ-loop
-put-u16-requires c κs = omega (arith, long (c .before .before .before .before))
+put-u16-requires c κs =
+    let s : tie.Start Inv-loop μ-loop = search in
+    omega (arith, long (s))
 
 mul-rule : tie.Need-mul-rule Inv-loop μ-loop
-mul-rule c = omega (arith, long (c .before .before .before .before .before .before .before))
+mul-rule c =
+    let s : tie.Start Inv-loop μ-loop = search in
+    omega (arith, long (s))
 
 add-rule : tie.Need-add-rule Inv-loop μ-loop
-add-rule c = omega (arith, long (c .before .before .before .before .before .before .before), c .before .before .put-u16 .ensures .place)
+add-rule c =
+    let s : tie.Start Inv-loop μ-loop = search in
+    omega (arith, long (s), c .before .before .put-u16 .ensures .place)
 
 loop-holds : tie.Need-loop-holds Inv-loop μ-loop
 loop-holds c =
+    let start : tie.Start Inv-loop μ-loop = search in
     let p = c .before .before in
-    let s = p .before .before .before .before .before in
+    let s = start in
     set-begins (s .args .n) (s .args .components .now) (s .args .ligatures .now) (s .args .i) (s .args .e) (s .pre .2) (s .pre .3) (s .pre .4) (p .put-u16 .ensures) (s .pre .1)
 
 sub-put-u16 : tie.Need-sub-put-u16 Inv-loop μ-loop
@@ -49,22 +56,25 @@ sub-put-u16 c = omega (arith, c .before .loop .inv .begins)
 
 cast-put-u16-2 : tie.Need-cast-put-u16-2 Inv-loop μ-loop
 cast-put-u16-2 c =
+    let start : tie.Start Inv-loop μ-loop = search in
     let l = c .before in
-    let s = l .before .before .before .before .before .before .before .before in
+    let s = start in
     omega (arith, rule-next (l .loop .inv) (omega (arith, c .loop-test .taken)) (s .pre .2) .small)
 
 put-u16-requires-2 : tie.Need-put-u16-requires-2 Inv-loop μ-loop
 put-u16-requires-2 c κs =
+    let start : tie.Start Inv-loop μ-loop = search in
     let l = c .before .before in
-    let s = l .before .before .before .before .before .before .before .before in
+    let s = start in
     room-first ((l .loop .rule - s .args .at) ∷ []) _ (rule-next (l .loop .inv) (omega (arith, c .before .loop-test .taken)) (s .pre .2) .coming)
 
 put-rule-requires : tie.Need-put-rule-requires Inv-loop μ-loop
 put-rule-requires c κs =
+    let start : tie.Start Inv-loop μ-loop = search in
     let p = c .before .before .before in
     let t = p .before .before in
     let l = t .before in
-    let s = l .before .before .before .before .before .before .before .before in
+    let s = start in
     let r = rule-next (l .loop .inv) (omega (arith, t .loop-test .taken)) (s .pre .2) in (
       s .pre .0,
       omega (arith, t .loop-test .taken, s .pre .2),
@@ -79,25 +89,29 @@ loop-less c = omega arith
 
 loop-again : tie.Need-loop-again Inv-loop μ-loop
 loop-again c =
+    let start : tie.Start Inv-loop μ-loop = search in
+    let at-put-u162 : tie.After-put-u162 Inv-loop μ-loop = search in
     let q = c .before .before in
-    let p = q .before .before .before .before in
+    let p = at-put-u162 in
     let t = p .before .before in
     let l = t .before in
-    let s = l .before .before .before .before .before .before .before .before in
+    let s = start in
     rule-turn (l .loop .inv) (omega (arith, t .loop-test .taken)) (s .pre .2) (p .put-u162 .ensures) (q .put-rule .ensures) _ (omega arith)
 
 same-length : tie.Need-same-length Inv-loop μ-loop
 same-length c =
+    let start : tie.Start Inv-loop μ-loop = search in
     let l = c .before in
     let p = l .before .before .before in
-    let s = p .before .before .before .before .before in
+    let s = start in
     set-ends (s .args .n) (s .args .components .now) (s .args .ligatures .now) (s .args .i) (s .args .e) (s .pre .2) (s .pre .3) (s .pre .4) (p .put-u16 .ensures) (omega (arith, c .loop-test .left)) (l .loop .inv) .same
 
 returns : tie.Need-returns Inv-loop μ-loop
 returns c =
+    let start : tie.Start Inv-loop μ-loop = search in
     let l = c .before in
     let p = l .before .before .before in
-    let s = p .before .before .before .before .before in
+    let s = start in
     set-ends (s .args .n) (s .args .components .now) (s .args .ligatures .now) (s .args .i) (s .args .e) (s .pre .2) (s .pre .3) (s .pre .4) (p .put-u16 .ensures) (omega (arith, c .loop-test .left)) (l .loop .inv)
 
 pub put-set-spec : {M : Type 1} → statement M

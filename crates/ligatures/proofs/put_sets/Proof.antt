@@ -22,56 +22,70 @@ loop-holds : tie.Need-loop-holds Inv-loop μ-loop
 loop-holds c = sets-begin (c .before .before .before .pre .1)
 
 set-end-requires : tie.Need-set-end-requires Inv-loop μ-loop
-set-end-requires c κs = (c .before .before .before .before .before .pre .0, c .loop-test .taken)
+set-end-requires c κs =
+    let s : tie.Start Inv-loop μ-loop = search in
+    (s .pre .0, c .loop-test .taken)
 
 sub-put-u16 : tie.Need-sub-put-u16 Inv-loop μ-loop
 sub-put-u16 c = omega (arith, c .before .before .loop .inv .begins)
 
 cast-put-u16 : tie.Need-cast-put-u16 Inv-loop μ-loop
 cast-put-u16 c =
+    let start : tie.Start Inv-loop μ-loop = search in
     let l = c .before .before in
-    let s = l .before .before .before .before in
+    let s = start in
     omega (arith, set-next (l .loop .inv) (s .pre .0) (c .set-end .ensures) .small)
 
 put-u16-requires : tie.Need-put-u16-requires Inv-loop μ-loop
 put-u16-requires c κs =
+    let start : tie.Start Inv-loop μ-loop = search in
     let l = c .before .before .before in
-    let s = l .before .before .before .before in
+    let s = start in
     room-first ((l .loop .set - 8) ∷ []) _ (set-next (l .loop .inv) (s .pre .0) (c .before .set-end .ensures) .coming)
 
 mul-put-u16 : tie.Need-mul-put-u16 Inv-loop μ-loop
 mul-put-u16 c =
-    let t = c .before .before .before .before .before in
-    let s = t .before .before .before .before .before in
+    let start : tie.Start Inv-loop μ-loop = search in
+    let at-in-loop : tie.In-loop Inv-loop μ-loop = search in
+    let t = at-in-loop in
+    let s = start in
     omega (arith, inside (t .before .loop .i) (s .pre .0) (t .loop-test .taken))
 
 mul-put-u16-2 : tie.Need-mul-put-u16-2 Inv-loop μ-loop
 mul-put-u16-2 c =
-    let t = c .before .before .before .before .before in
-    let s = t .before .before .before .before .before in
+    let start : tie.Start Inv-loop μ-loop = search in
+    let at-in-loop : tie.In-loop Inv-loop μ-loop = search in
+    let t = at-in-loop in
+    let s = start in
     omega (arith, inside (t .before .loop .i) (s .pre .0) (t .loop-test .taken))
 
 shared-slice-read-put-u16 : tie.Need-shared-slice-read-put-u16 Inv-loop μ-loop
 shared-slice-read-put-u16 c =
-    let t = c .before .before .before .before .before .before in
-    let s = t .before .before .before .before .before in
+    let start : tie.Start Inv-loop μ-loop = search in
+    let at-in-loop : tie.In-loop Inv-loop μ-loop = search in
+    let t = at-in-loop in
+    let s = start in
     omega (arith, inside (t .before .loop .i) (s .pre .0) (t .loop-test .taken), s .pre .0 .low)
 
 put-u16-requires-2 : tie.Need-put-u16-requires-2 Inv-loop μ-loop
 put-u16-requires-2 c κs =
-    let p = c .before .before .before .before in
+    let start : tie.Start Inv-loop μ-loop = search in
+    let at-put-u16 : tie.After-put-u16 Inv-loop μ-loop = search in
+    let p = at-put-u16 in
     let f = p .before .before in
     let l = f .before .before in
-    let s = l .before .before .before .before in
+    let s = start in
     omega (arith, p .put-u16 .ensures .same, room-second (getD (s .args .components .now) (l .loop .i * s .args .n) 0 ∷ []) _ (set-next (l .loop .inv) (s .pre .0) (f .set-end .ensures) .coming))
 
 put-set-requires : tie.Need-put-set-requires Inv-loop μ-loop
 put-set-requires c κs =
+    let start : tie.Start Inv-loop μ-loop = search in
+    let at-put-u16 : tie.After-put-u16 Inv-loop μ-loop = search in
     let q = c .before .before .before in
-    let p = q .before .before .before .before .before in
+    let p = at-put-u16 in
     let f = p .before .before in
     let l = f .before .before in
-    let s = l .before .before .before .before in
+    let s = start in
     let found = f .set-end .ensures in
     let x = set-next (l .loop .inv) (s .pre .0) found in (
       s .pre .0,
@@ -83,21 +97,27 @@ put-set-requires c κs =
 
 loop-less : tie.Need-loop-less Inv-loop μ-loop
 loop-less c =
-    let f = c .before .before .before .before .before .before .before .before .before .before .before .before .before in
+    let at-set-end : tie.After-set-end Inv-loop μ-loop = search in
+    let f = at-set-end in
     omega (arith, f .set-end .ensures .after, f .set-end .ensures .within)
 
 loop-again : tie.Need-loop-again Inv-loop μ-loop
 loop-again c =
+    let start : tie.Start Inv-loop μ-loop = search in
+    let at-put-u162 : tie.After-put-u162 Inv-loop μ-loop = search in
+    let at-put-u16 : tie.After-put-u16 Inv-loop μ-loop = search in
     let r = c .before .before in
-    let q = r .before .before .before .before in
-    let p = q .before .before .before .before .before in
+    let q = at-put-u162 in
+    let p = at-put-u16 in
     let f = p .before .before in
     let l = f .before .before in
-    let s = l .before .before .before .before in
+    let s = start in
     set-turn (l .loop .inv) (s .pre .0) (f .set-end .ensures) (p .put-u16 .ensures) (q .put-u162 .ensures) (r .put-set .ensures)
 
 same-length : tie.Need-same-length Inv-loop μ-loop
-same-length c = sets-same (c .before .loop .inv) (c .before .before .before .before .before .pre .1)
+same-length c =
+    let s : tie.Start Inv-loop μ-loop = search in
+    sets-same (c .before .loop .inv) (s .pre .1)
 
 returns : tie.Need-returns Inv-loop μ-loop
 returns c = sets-end (c .before .loop .inv) (c .loop-test .left)

@@ -40,7 +40,8 @@ mul-if1-2 c = omega (arith, inside (c .before .loop .e) (c .before .before .befo
 
 shared-slice-read-if1 : tie.Need-shared-slice-read-if1 Inv-loop μ-loop
 shared-slice-read-if1 c =
-    let s = c .before .before .before .before in
+    let start : tie.Start Inv-loop μ-loop = search in
+    let s = start in
     omega (arith, inside (c .before .before .loop .e) (s .pre .0) (c .before .loop-test .taken), s .pre .0 .low)
 
 -- another leader

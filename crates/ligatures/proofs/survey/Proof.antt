@@ -18,7 +18,9 @@ loop-holds : tie.Need-loop-holds Inv-loop μ-loop
 loop-holds c = survey-begins _ _ _
 
 set-end-requires : tie.Need-set-end-requires Inv-loop μ-loop
-set-end-requires c κs = (c .before .before .before .before .pre, c .loop-test .taken)
+set-end-requires c κs =
+    let s : tie.Start Inv-loop μ-loop = search in
+    (s .pre, c .loop-test .taken)
 
 add-sets : tie.Need-add-sets Inv-loop μ-loop
 add-sets c = omega (arith, c .before .before .loop .inv .few, c .before .loop-test .taken)

@@ -42,9 +42,11 @@ rules-small c = product-small (lent c) (began c .pre .1) _ (omega arith)
 -- what passed all tests
 allowed : (c : tie.Else3) → let s = began (c .before .before .before .before .before .before .before) in Allowed (lookupOf (s .args .flags) (Ligature (s .args .n)) (s .args .components .now) (s .args .ligatures .now)) (length (s .args .area .now))
 allowed c =
-    let k = c .before .before .before .before .before .before .before in
+    let at-else1 : tie.Else1 = search in
+    let at-survey : tie.After-survey = search in
+    let k = at-survey in
     let f = k .survey .ensures in
-    not-refused (lent k) (began k .args .area .now) (f .0) (f .1 .0) (f .1 .1) (omega (arith, c .before .before .before .before .if1 .left)) (omega (arith, c .before .before .if2 .left)) (omega (arith, c .if3 .left))
+    not-refused (lent k) (began k .args .area .now) (f .0) (f .1 .0) (f .1 .1) (omega (arith, at-else1 .if1 .left)) (omega (arith, c .before .before .if2 .left)) (omega (arith, c .if3 .left))
 
 survey-requires : tie.Need-survey-requires
 survey-requires c κs = c .before .before .before .pre .0
@@ -81,39 +83,52 @@ add-if2 : tie.Need-add-if2
 add-if2 c = omega (arith, size-small (c .before .before .before))
 
 mul-if2-2 : tie.Need-mul-if2-2
-mul-if2-2 c = omega (arith, longest-small (c .before .before .before .before))
+mul-if2-2 c =
+    let at-survey : tie.After-survey = search in
+    omega (arith, longest-small (at-survey))
 
 -- the last rule's offset, in the longest set
 returns-2 : tie.Need-returns-2
 returns-2 c =
-    let k = c .before .before .before .before .before in
+    let at-survey : tie.After-survey = search in
+    let k = at-survey in
     set-refused (lent k) (began k .args .area .now) (k .survey .ensures .1 .0) (omega (arith, c .if2 .taken))
 
 mul-if3 : tie.Need-mul-if3
-mul-if3 c = omega (arith, sets-small (c .before .before .before .before .before .before))
+mul-if3 c =
+    let at-survey : tie.After-survey = search in
+    omega (arith, sets-small (at-survey))
 
 add-if3 : tie.Need-add-if3
-add-if3 c = omega (arith, sets-small (c .before .before .before .before .before .before))
+add-if3 c =
+    let at-survey : tie.After-survey = search in
+    omega (arith, sets-small (at-survey))
 
 mul-if3-2 : tie.Need-mul-if3-2
-mul-if3-2 c = omega (arith, rules-small (c .before .before .before .before .before .before))
+mul-if3-2 c =
+    let at-survey : tie.After-survey = search in
+    omega (arith, rules-small (at-survey))
 
 add-if3-2 : tie.Need-add-if3-2
 add-if3-2 c =
-    let k = c .before .before .before .before .before .before in
+    let at-survey : tie.After-survey = search in
+    let k = at-survey in
     omega (arith, sets-small k, rules-small k)
 
 -- the area is shorter than the lookup
 returns-3 : tie.Need-returns-3
 returns-3 c =
-    let k = c .before .before .before .before .before .before .before in
+    let at-else1 : tie.Else1 = search in
+    let at-survey : tie.After-survey = search in
+    let k = at-survey in
     let f = k .survey .ensures in
-    room-refused (lent k) (began k .args .area .now) (f .0) (f .1 .0) (f .1 .1) (omega (arith, c .before .before .before .before .if1 .left)) (omega (arith, c .before .before .if2 .left)) (omega (arith, c .if3 .taken))
+    room-refused (lent k) (began k .args .area .now) (f .0) (f .1 .0) (f .1 .1) (omega (arith, at-else1 .if1 .left)) (omega (arith, c .before .before .if2 .left)) (omega (arith, c .if3 .taken))
 
 put-lookup-requires : tie.Need-put-lookup-requires
 put-lookup-requires c κs =
+    let at-survey : tie.After-survey = search in
     let e = c .before in
-    let k = e .before .before .before .before .before .before .before in
+    let k = at-survey in
     let a = allowed e in
     (began k .pre .0, k .survey .ensures .0, a .small, a .enough)
 

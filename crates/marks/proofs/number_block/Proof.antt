@@ -18,7 +18,9 @@ abbrev μ-loop : tie.MeasureT-loop
 
 -- the mark at hand has a class
 inside : (c : tie.In-loop Inv-loop μ-loop) → c .before .loop .j < length (c .before .loop .classes)
-inside c = omega (arith, c .loop-test .taken, c .before .before .before .before .pre .0, c .before .loop .inv .keep)
+inside c =
+    let s : tie.Start Inv-loop μ-loop = search in
+    omega (arith, c .loop-test .taken, s .pre .0, c .before .loop .inv .keep)
 
 loop-holds : tie.Need-loop-holds Inv-loop μ-loop
 loop-holds c = numbering-begins _ _ _ _ _
@@ -36,13 +38,21 @@ moved-requires : tie.Need-moved-requires Inv-loop μ-loop
 moved-requires c κs = search needs
 
 same-length : tie.Need-same-length Inv-loop μ-loop
-same-length c = (c .before .before .before .before .before .loop .inv) .keep
+same-length c =
+    let at-loop : tie.At-loop Inv-loop μ-loop = search in
+    (at-loop .loop .inv) .keep
 
 returns : tie.Need-returns Inv-loop μ-loop
-returns c = numbering-fails (c .before .before .before .before .before .before .before .before .pre .0) (c .before .before .before .before .before .loop .inv) (c .before .before .before .before .loop-test .taken) (sym (c .before .moved .ensures) ∙ not-true _ (c .if1 .taken))
+returns c =
+    let s : tie.Start Inv-loop μ-loop = search in
+    let at-in-loop : tie.In-loop Inv-loop μ-loop = search in
+    let at-loop : tie.At-loop Inv-loop μ-loop = search in
+    numbering-fails (s .pre .0) (at-loop .loop .inv) (at-in-loop .loop-test .taken) (sym (c .before .moved .ensures) ∙ not-true _ (c .if1 .taken))
 
 slice-write-classes : tie.Need-slice-write-classes Inv-loop μ-loop
-slice-write-classes c = inside (c .before .before .before .before)
+slice-write-classes c =
+    let at-in-loop : tie.In-loop Inv-loop μ-loop = search in
+    inside (at-in-loop)
 
 add-j : tie.Need-add-j Inv-loop μ-loop
 add-j c = search needs
@@ -51,13 +61,19 @@ loop-less : tie.Need-loop-less Inv-loop μ-loop
 loop-less c = search needs
 
 loop-again : tie.Need-loop-again Inv-loop μ-loop
-loop-again c = numbering-on (c .before .before .before .before .before .before .before .before .pre .0) (c .before .before .before .before .before .loop .inv) (c .before .before .before .before .loop-test .taken) (sym (c .before .moved .ensures) ∙ not-false _ (c .if1 .left))
+loop-again c =
+    let s : tie.Start Inv-loop μ-loop = search in
+    let at-in-loop : tie.In-loop Inv-loop μ-loop = search in
+    let at-loop : tie.At-loop Inv-loop μ-loop = search in
+    numbering-on (s .pre .0) (at-loop .loop .inv) (at-in-loop .loop-test .taken) (sym (c .before .moved .ensures) ∙ not-false _ (c .if1 .left))
 
 same-length-2 : tie.Need-same-length-2 Inv-loop μ-loop
 same-length-2 c = c .before .loop .inv .keep
 
 returns-2 : tie.Need-returns-2 Inv-loop μ-loop
-returns-2 c = numbering-ends (c .before .before .before .before .pre .0) (c .before .loop .inv) (c .loop-test .left)
+returns-2 c =
+    let s : tie.Start Inv-loop μ-loop = search in
+    numbering-ends (s .pre .0) (c .before .loop .inv) (c .loop-test .left)
 
 pub number-block-spec : {M : Type 1} → statement M
 number-block-spec =

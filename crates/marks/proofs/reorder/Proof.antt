@@ -35,10 +35,14 @@ array-read-class : tie.Need-array-read-class Inv-loop μ-loop Inv-passes μ-pass
 array-read-class c = search needs
 
 loop-holds : tie.Need-loop-holds Inv-loop μ-loop Inv-passes μ-passes
-loop-holds c = walked-skipping (c .before .before .before .before .pre .0) (c .before .passes .inv) _
+loop-holds c =
+    let s : tie.Start Inv-loop μ-loop Inv-passes μ-passes = search in
+    walked-skipping (s .pre .0) (c .before .passes .inv) _
 
 slice-read-if1 : tie.Need-slice-read-if1 Inv-loop μ-loop Inv-passes μ-passes
-slice-read-if1 c = let p = c .before .before .before .before in rw (← walked-even (p .before .before .before .pre .0) (p .passes .inv)) (inside (c .before))
+slice-read-if1 c =
+    let at-passes : tie.At-passes Inv-loop μ-loop Inv-passes μ-passes = search in
+    let p = at-passes in rw (← walked-even (p .before .before .before .pre .0) (p .passes .inv)) (inside (c .before))
 
 add-i : tie.Need-add-i Inv-loop μ-loop Inv-passes μ-passes
 add-i c = omega (arith, inside (c .before .before))
@@ -47,13 +51,18 @@ loop-less : tie.Need-loop-less Inv-loop μ-loop Inv-passes μ-passes
 loop-less c = search (needs, inside (c .before .before))
 
 loop-again : tie.Need-loop-again Inv-loop μ-loop Inv-passes μ-passes
-loop-again c = let p = c .before .before .before .before .before in walked-on (p .before .before .before .pre .0) (p .passes .inv) _ _ (inside (c .before .before)) (c .if1 .left) (c .before .before .before .loop .inv)
+loop-again c =
+    let at-passes : tie.At-passes Inv-loop μ-loop Inv-passes μ-passes = search in
+    let p = at-passes in walked-on (p .before .before .before .pre .0) (p .passes .inv) _ _ (inside (c .before .before)) (c .if1 .left) (c .before .before .before .loop .inv)
 
 new-class-requires : tie.Need-new-class-requires Inv-loop μ-loop Inv-passes μ-passes
 new-class-requires c κs = search needs
 
 number-block-requires : tie.Need-number-block-requires Inv-loop μ-loop Inv-passes μ-passes
-number-block-requires c κs = let p = c .before .before .before .before .before .before .before .before in (walked-even (p .before .before .before .pre .0) (p .passes .inv), walked-skipped (p .before .before .before .pre .0) (p .passes .inv) _ _ (c .before .before .before .before .before .before .loop .inv))
+number-block-requires c κs =
+    let at-loop : tie.At-loop Inv-loop μ-loop Inv-passes μ-passes = search in
+    let at-passes : tie.At-passes Inv-loop μ-loop Inv-passes μ-passes = search in
+    let p = at-passes in (walked-even (p .before .before .before .pre .0) (p .passes .inv), walked-skipped (p .before .before .before .pre .0) (p .passes .inv) _ _ (at-loop .loop .inv))
 
 -- the block found: it ends in the part, and all places are small
 reached :
@@ -61,79 +70,127 @@ reached :
     → let p = c .before .before .before .before .before .before .before .before .before in
     (p .passes .from ≤ c .before .before .before .before .before .before .before .loop .i) × (c .before .before .before .before .before .before .before .loop .i ≤ c .number-block .result) × (c .number-block .result ≤ length (p .passes .codes)) × (p .before .before .before .args .start + length (p .passes .codes) ≤ lineLimit)
 reached c =
-    let p = c .before .before .before .before .before .before .before .before .before in
+    let at-loop : tie.At-loop Inv-loop μ-loop Inv-passes μ-passes = search in
+    let at-in-passes : tie.In-passes Inv-loop μ-loop Inv-passes μ-passes = search in
+    let at-passes : tie.At-passes Inv-loop μ-loop Inv-passes μ-passes = search in
+    let p = at-passes in
     let e = p .before .before .before .pre .0 in
     let w = p .passes .inv in
-    let q = c .before .before .before .before .before .before .before .before .passes-test .taken in
-    let s = c .before .before .before .before .before .before .before .loop .inv in
+    let q = at-in-passes .passes-test .taken in
+    let s = at-loop .loop .inv in
     let b = c .number-block .ensures .0 in
     (walked-from e w _ _ q s b, walked-block e w _ _ q s b, walked-fits e w _ _ q s b, rw (w .codes-keep) (p .before .before .before .pre .1))
 
 -- it ends in the classes, too
 fits : (c : tie.After-number-block Inv-loop μ-loop Inv-passes μ-passes) → c .number-block .result ≤ length (c .number-block .last .1 .0)
 fits c =
-    let p = c .before .before .before .before .before .before .before .before .before in
-    rw (← numbered-even (p .before .before .before .pre .0) (p .passes .inv) _ _ (c .before .before .before .before .before .before .before .before .passes-test .taken) (c .before .before .before .before .before .before .before .loop .inv) (c .number-block .ensures .0) (inside (c .before .before .before .before .before .before)) (c .before .before .before .before .if1 .taken) (c .number-block .last .1 .0) (c .number-block .kept .1 .0) (c .before .new-class .result) (c .before .new-class .ensures) (c .number-block .ensures .1)) (reached c .2)
+    let at-then1 : tie.Then1 Inv-loop μ-loop Inv-passes μ-passes = search in
+    let at-in-loop : tie.In-loop Inv-loop μ-loop Inv-passes μ-passes = search in
+    let at-loop : tie.At-loop Inv-loop μ-loop Inv-passes μ-passes = search in
+    let at-in-passes : tie.In-passes Inv-loop μ-loop Inv-passes μ-passes = search in
+    let at-passes : tie.At-passes Inv-loop μ-loop Inv-passes μ-passes = search in
+    let p = at-passes in
+    rw (← numbered-even (p .before .before .before .pre .0) (p .passes .inv) _ _ (at-in-passes .passes-test .taken) (at-loop .loop .inv) (c .number-block .ensures .0) (inside (at-in-loop)) (at-then1 .if1 .taken) (c .number-block .last .1 .0) (c .number-block .kept .1 .0) (c .before .new-class .result) (c .before .new-class .ensures) (c .number-block .ensures .1)) (reached c .2)
 
 slice-relend-prefix-bring : tie.Need-slice-relend-prefix-bring Inv-loop μ-loop Inv-passes μ-passes
 slice-relend-prefix-bring c = reached (c .before .before .before) .2
 
 slice-aggregate-bring : tie.Need-slice-aggregate-bring Inv-loop μ-loop Inv-passes μ-passes
-slice-aggregate-bring c = sym (length-take-le _ _ (reached (c .before .before .before .before) .2))
+slice-aggregate-bring c =
+    let at-number-block : tie.After-number-block Inv-loop μ-loop Inv-passes μ-passes = search in
+    sym (length-take-le _ _ (reached (at-number-block) .2))
 
 slice-relend-prefix-bring-2 :
     tie.Need-slice-relend-prefix-bring-2 Inv-loop μ-loop Inv-passes μ-passes
-slice-relend-prefix-bring-2 c = fits (c .before .before .before .before)
+slice-relend-prefix-bring-2 c =
+    let at-number-block : tie.After-number-block Inv-loop μ-loop Inv-passes μ-passes = search in
+    fits (at-number-block)
 
 slice-aggregate-bring-2 : tie.Need-slice-aggregate-bring-2 Inv-loop μ-loop Inv-passes μ-passes
-slice-aggregate-bring-2 c = sym (length-take-le _ _ (fits (c .before .before .before .before .before)))
+slice-aggregate-bring-2 c =
+    let at-number-block : tie.After-number-block Inv-loop μ-loop Inv-passes μ-passes = search in
+    sym (length-take-le _ _ (fits (at-number-block)))
 
 bring-requires : tie.Need-bring-requires Inv-loop μ-loop Inv-passes μ-passes
 bring-requires c κs =
-    let b = c .before .before .before .before .before in
+    let at-number-block : tie.After-number-block Inv-loop μ-loop Inv-passes μ-passes = search in
+    let at-passes : tie.At-passes Inv-loop μ-loop Inv-passes μ-passes = search in
+    let b = at-number-block in
     let r = reached b in
-    let codes = length-take-le (b .number-block .result) (b .before .before .before .before .before .before .before .before .before .passes .codes) (r .2) in
+    let codes = length-take-le (b .number-block .result) (at-passes .passes .codes) (r .2) in
     (codes ∙ sym (length-take-le _ _ (fits b)), (omega (arith, r .0, r .1), rw codes (omega (arith, r .0, r .1))))
 
 add-with : tie.Need-add-with Inv-loop μ-loop Inv-passes μ-passes
-add-with c = let r = reached (c .before .before .before .before .before .before .before .before .before .before) in omega (arith, r .0, r .1, r .2, r .3)
+add-with c =
+    let at-number-block : tie.After-number-block Inv-loop μ-loop Inv-passes μ-passes = search in
+    let r = reached (at-number-block) in omega (arith, r .0, r .1, r .2, r .3)
 
 add-with-2 : tie.Need-add-with-2 Inv-loop μ-loop Inv-passes μ-passes
-add-with-2 c = let r = reached (c .before .before .before .before .before .before .before .before .before .before) in omega (arith, r .2, r .3)
+add-with-2 c =
+    let at-number-block : tie.After-number-block Inv-loop μ-loop Inv-passes μ-passes = search in
+    let r = reached (at-number-block) in omega (arith, r .2, r .3)
 
 with-requires : tie.Need-with-requires Inv-loop μ-loop Inv-passes μ-passes
-with-requires c κs = omega (arith, c .before .before .before .before .before .before .before .before .before .before .before .before .before .before .before .before .before .before .before .passes .inv .walk .few, c .before .before .before .before .before .before .before .before .before .before .before .before .before .before .before .before .before .before .passes-test .taken)
+with-requires c κs =
+    let at-in-passes : tie.In-passes Inv-loop μ-loop Inv-passes μ-passes = search in
+    let at-passes : tie.At-passes Inv-loop μ-loop Inv-passes μ-passes = search in
+    omega (arith, at-passes .passes .inv .walk .few, at-in-passes .passes-test .taken)
 
 sub-from : tie.Need-sub-from Inv-loop μ-loop Inv-passes μ-passes
-sub-from c = let r = reached (c .before .before .before .before .before .before .before .before .before .before .before) in omega (arith, r .0, r .1)
+sub-from c =
+    let at-number-block : tie.After-number-block Inv-loop μ-loop Inv-passes μ-passes = search in
+    let r = reached (at-number-block) in omega (arith, r .0, r .1)
 
 add-from : tie.Need-add-from Inv-loop μ-loop Inv-passes μ-passes
-add-from c = let r = reached (c .before .before .before .before .before .before .before .before .before .before .before) in omega (arith, r .0, r .1, r .2, r .3)
+add-from c =
+    let at-number-block : tie.After-number-block Inv-loop μ-loop Inv-passes μ-passes = search in
+    let r = reached (at-number-block) in omega (arith, r .0, r .1, r .2, r .3)
 
 add-pass : tie.Need-add-pass Inv-loop μ-loop Inv-passes μ-passes
-add-pass c = omega (arith, c .before .before .before .before .before .before .before .before .before .before .before .before .before .before .before .before .before .before .before .passes-test .taken)
+add-pass c =
+    let at-in-passes : tie.In-passes Inv-loop μ-loop Inv-passes μ-passes = search in
+    omega (arith, at-in-passes .passes-test .taken)
 
 passes-less : tie.Need-passes-less Inv-loop μ-loop Inv-passes μ-passes
-passes-less c = search (needs, c .before .before .before .before .before .before .before .before .before .before .before .before .before .before .before .before .before .before .before .passes-test .taken)
+passes-less c =
+    let at-in-passes : tie.In-passes Inv-loop μ-loop Inv-passes μ-passes = search in
+    search (needs, at-in-passes .passes-test .taken)
 
 passes-again : tie.Need-passes-again Inv-loop μ-loop Inv-passes μ-passes
 passes-again c =
-    let b = c .before .before .before .before .before .before .before .before .before .before .before in
-    let p = b .before .before .before .before .before .before .before .before .before in
-    let moved = c .before .before .before .before .before .bring in
-    walked-takes (p .before .before .before .pre .0) (p .passes .inv) _ _ (b .before .before .before .before .before .before .before .before .passes-test .taken) (b .before .before .before .before .before .before .before .loop .inv) (b .number-block .ensures .0) (inside (b .before .before .before .before .before .before)) (b .before .before .before .before .if1 .taken) (b .number-block .last .1 .0) (b .number-block .kept .1 .0) (b .before .new-class .result) (b .before .new-class .ensures) (b .number-block .ensures .1) (c .before .before .before .before .before .before .before .before .if2 .taken) (moved .last .0) (moved .last .1 .0) (moved .kept .0) (moved .kept .1 .0) (moved .ensures) _ (c .with .ensures)
+    let at-bring : tie.After-bring Inv-loop μ-loop Inv-passes μ-passes = search in
+    let at-then2 : tie.Then2 Inv-loop μ-loop Inv-passes μ-passes = search in
+    let at-number-block : tie.After-number-block Inv-loop μ-loop Inv-passes μ-passes = search in
+    let at-then1 : tie.Then1 Inv-loop μ-loop Inv-passes μ-passes = search in
+    let at-in-loop : tie.In-loop Inv-loop μ-loop Inv-passes μ-passes = search in
+    let at-loop : tie.At-loop Inv-loop μ-loop Inv-passes μ-passes = search in
+    let at-in-passes : tie.In-passes Inv-loop μ-loop Inv-passes μ-passes = search in
+    let at-passes : tie.At-passes Inv-loop μ-loop Inv-passes μ-passes = search in
+    let b = at-number-block in
+    let p = at-passes in
+    let moved = at-bring .bring in
+    walked-takes (p .before .before .before .pre .0) (p .passes .inv) _ _ (at-in-passes .passes-test .taken) (at-loop .loop .inv) (b .number-block .ensures .0) (inside (at-in-loop)) (at-then1 .if1 .taken) (b .number-block .last .1 .0) (b .number-block .kept .1 .0) (b .before .new-class .result) (b .before .new-class .ensures) (b .number-block .ensures .1) (at-then2 .if2 .taken) (moved .last .0) (moved .last .1 .0) (moved .kept .0) (moved .kept .1 .0) (moved .ensures) _ (c .with .ensures)
 
 add-pass-2 : tie.Need-add-pass-2 Inv-loop μ-loop Inv-passes μ-passes
-add-pass-2 c = omega (arith, c .before .before .before .before .before .before .before .before .before .before .before .passes-test .taken)
+add-pass-2 c =
+    let at-in-passes : tie.In-passes Inv-loop μ-loop Inv-passes μ-passes = search in
+    omega (arith, at-in-passes .passes-test .taken)
 
 passes-less-2 : tie.Need-passes-less-2 Inv-loop μ-loop Inv-passes μ-passes
-passes-less-2 c = search (needs, c .before .before .before .before .before .before .before .before .before .before .before .passes-test .taken)
+passes-less-2 c =
+    let at-in-passes : tie.In-passes Inv-loop μ-loop Inv-passes μ-passes = search in
+    search (needs, at-in-passes .passes-test .taken)
 
 passes-again-2 : tie.Need-passes-again-2 Inv-loop μ-loop Inv-passes μ-passes
 passes-again-2 c =
+    let at-then1 : tie.Then1 Inv-loop μ-loop Inv-passes μ-passes = search in
+    let at-in-loop : tie.In-loop Inv-loop μ-loop Inv-passes μ-passes = search in
+    let at-loop : tie.At-loop Inv-loop μ-loop Inv-passes μ-passes = search in
+    let at-in-passes : tie.In-passes Inv-loop μ-loop Inv-passes μ-passes = search in
+    let at-passes : tie.At-passes Inv-loop μ-loop Inv-passes μ-passes = search in
     let b = c .before .before .before in
-    let p = b .before .before .before .before .before .before .before .before .before in
-    walked-none (p .before .before .before .pre .0) (p .passes .inv) _ _ (b .before .before .before .before .before .before .before .before .passes-test .taken) (b .before .before .before .before .before .before .before .loop .inv) (b .number-block .ensures .0) (inside (b .before .before .before .before .before .before)) (b .before .before .before .before .if1 .taken) (b .number-block .last .1 .0) (b .number-block .kept .1 .0) (b .before .new-class .result) (b .before .new-class .ensures) (b .number-block .ensures .1) (c .if2 .left)
+    let p = at-passes in
+    walked-none (p .before .before .before .pre .0) (p .passes .inv) _ _ (at-in-passes .passes-test .taken) (at-loop .loop .inv) (b .number-block .ensures .0) (inside (at-in-loop)) (at-then1 .if1 .taken) (b .number-block .last .1 .0) (b .number-block .kept .1 .0) (b .before .new-class .result) (b .before .new-class .ensures) (b .number-block .ensures .1) (c .if2 .left)
 
 same-length : tie.Need-same-length Inv-loop μ-loop Inv-passes μ-passes
 same-length c = c .before .passes .inv .codes-keep

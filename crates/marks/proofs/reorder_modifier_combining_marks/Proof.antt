@@ -37,7 +37,9 @@ accepted : (c : tie.After-enum-told) → let s = c .before .before .before .befo
 accepted c = ap said (sym (c .enum-told .given .1)) ∙ found (c .before .before)
 
 given : (c : tie.After-enum-told) → let s = c .before .before .before .before .before in Allowed (asked s) (lent s)
-given c = let s = c .before .before .before .before .before in allowed (asked s) (lent s) (sym (accepted c))
+given c =
+    let start : tie.Start = search in
+    let s = start in allowed (asked s) (lent s) (sym (accepted c))
 
 refused-requires : tie.Need-refused-requires
 refused-requires c κs = search needs
@@ -71,7 +73,8 @@ part-reorder-end-2 c = let a = given (c .before) in omega (arith, a .even, a .or
 
 reorder-requires : tie.Need-reorder-requires
 reorder-requires c κs =
-    let s = c .before .before .before .before .before .before .before .args in
+    let start : tie.Start = search in
+    let s = start .args in
     let a = given (c .before .before) in
     let codes = mid-len (s .start) (s .end) (s .codes .now) (a .inside) in
     let classes = mid-len (s .start) (s .end) (s .classes .now) (rw (← a .even) (a .inside)) in
@@ -79,7 +82,8 @@ reorder-requires c κs =
 
 returns : tie.Need-returns
 returns c =
-    let s = c .before .before .before .before .before .before in
+    let start : tie.Start = search in
+    let s = start in
     let k = c .before .verdict .given .0 .0 in
     left-refused _ (old s) (new s) _ (ap said (sym (c .before .verdict .given .1)) ∙ found (c .before .before .before)) (refused-number k)
 
@@ -91,9 +95,12 @@ same-length-2 c = search needs
 
 returns-2 : tie.Need-returns-2
 returns-2 c =
-    let t = c .before .before .before .before .before .before .before in
-    let s = t .before .before .before .before .before in
-    let done = c .before .before .before .before .reorder in
+    let start : tie.Start = search in
+    let at-reorder : tie.After-reorder = search in
+    let at-enum-told : tie.After-enum-told = search in
+    let t = at-enum-told in
+    let s = start in
+    let done = at-reorder .reorder in
     let a = given t in
     left-done _ (old s) (new s) _ _ (accepted t) refl
     (ap₂ reorderOutcome

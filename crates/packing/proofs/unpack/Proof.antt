@@ -41,7 +41,8 @@ slice-write-ligatures c = search needs
 
 add-at : tie.Need-add-at Inv-loop μ-loop
 add-at c =
-    let t = c .before .before .before .before .before in
+    let at-in-loop : tie.In-loop Inv-loop μ-loop = search in
+    let t = at-in-loop in
     omega (arith, unpacking-room (t .before .loop .inv) (t .loop-test .taken))
 
 add-i : tie.Need-add-i Inv-loop μ-loop
@@ -52,7 +53,8 @@ loop-less c = search needs
 
 loop-again : tie.Need-loop-again Inv-loop μ-loop
 loop-again c =
-    let t = c .before .before .before .before .before in
+    let at-in-loop : tie.In-loop Inv-loop μ-loop = search in
+    let t = at-in-loop in
     unpacking-next (t .before .loop .inv) (t .loop-test .taken) _ _ (c .before .before .put-digits .ensures)
 
 same-length : tie.Need-same-length Inv-loop μ-loop

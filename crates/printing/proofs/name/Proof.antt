@@ -45,8 +45,10 @@ same-length c = search needs
 returns : tie.Need-returns
 unfolding namesTogether
 returns c =
-    let a = c .before .before .before .before .before .before .before .before .before .args in
-    c .before .before .put-all .ensures ∙ ap (writes (Wrote (a .out .now) (a .at))) (lies (c .before .before .before .before .before .before) .2)
+    let s : tie.Start = search in
+    let at-name-from2 : tie.After-name-from2 = search in
+    let a = s .args in
+    c .before .before .put-all .ensures ∙ ap (writes (Wrote (a .out .now) (a .at))) (lies (at-name-from2) .2)
 
 pub name-spec : {M : Type 1} → statement M
 name-spec =

@@ -16,8 +16,10 @@ same-length c = search needs
 
 returns : tie.Need-returns
 returns c =
-    let a = c .before .before .before .before .before .before .before .before .before .before .before .before .args in
-    print-filled (a .out .now) (a .codes .now) (a .widths .now) (a .actions .now) _ _ (c .before .before .before .before .before .before .heading .ensures) (c .before .before .rows .ensures)
+    let s : tie.Start = search in
+    let at-heading : tie.After-heading = search in
+    let a = s .args in
+    print-filled (a .out .now) (a .codes .now) (a .widths .now) (a .actions .now) _ _ (at-heading .heading .ensures) (c .before .before .rows .ensures)
 
 pub print-spec : {M : Type 1} → statement M
 print-spec = tie.close (tie.spec heading-requires rows-requires same-length returns)

@@ -32,10 +32,13 @@ loop-less c = search needs
 
 loop-again : tie.Need-loop-again Inv-loop μ-loop
 loop-again c =
-    let l = c .before .before .before .before .before .before .loop in (
+    let s : tie.Start Inv-loop μ-loop = search in
+    let at-in-loop : tie.In-loop Inv-loop μ-loop = search in
+    let at-loop : tie.At-loop Inv-loop μ-loop = search in
+    let l = at-loop .loop in (
       search needs,
       search needs,
-      l .inv .2 ∙ writes-next (Wrote (l .out) (l .k)) _ (c .before .before .before .before .before .before .before .before .before .args .bytes .now) (l .i) (c .before .before .before .before .before .loop-test .taken) (c .before .before .put .ensures),
+      l .inv .2 ∙ writes-next (Wrote (l .out) (l .k)) _ (s .args .bytes .now) (l .i) (at-in-loop .loop-test .taken) (c .before .before .put .ensures),
     )
 
 same-length : tie.Need-same-length Inv-loop μ-loop

@@ -22,8 +22,12 @@ same-length c = search needs
 
 returns : tie.Need-returns
 returns c =
-    let a = c .before .before .before .before .before .before .before .before .before .before .before .before .before .before .args in
-    refused-filled (a .out .now) (a .number) (c .before .before .before .before .before .before .before .places .result) _ _ _ (c .before .before .before .before .before .before .before .before .before .before .before .refused-word .ensures) (c .before .before .before .before .before .before .before .places .ensures) (c .before .before .before .before .before .before .numeral .ensures)
+    let s : tie.Start = search in
+    let at-numeral : tie.After-numeral = search in
+    let at-places : tie.After-places = search in
+    let at-refused-word : tie.After-refused-word = search in
+    let a = s .args in
+    refused-filled (a .out .now) (a .number) (at-places .places .result) _ _ _ (at-refused-word .refused-word .ensures) (at-places .places .ensures) (at-numeral .numeral .ensures)
     (c .before .before .put .ensures)
 
 pub refused-spec : {M : Type 1} → statement M

@@ -32,13 +32,20 @@ same-length c = search needs
 
 returns : tie.Need-returns
 returns c =
-    let a = c .before .before .before .before .before .before .before .before .before .before .before .before .before .before .before .before .before .before .before .before .before .before .before .before .before .before .args in
-    row-written (Wrote (a .out .now) (a .at)) (a .place) (a .code) (a .width) (a .action) (c .before .before .before .before .before .before .before .before .before .before .before .before .before .before .before .before .before .before .before .before .before .before .before .places .result) _ _ _ _ _ _ (c .before .before .before .before .before .before .before .before .before .before .before .before .before .before .before .before .before .before .before .before .before .before .before .places .ensures)
-    (c .before .before .before .before .before .before .before .before .before .before .before .before .before .before .before .before .before .before .before .before .before .before .numeral .ensures)
-    (c .before .before .before .before .before .before .before .before .before .before .before .before .before .before .before .before .before .before .put .ensures)
-    (c .before .before .before .before .before .before .before .before .before .before .before .before .before .before .numeral2 .ensures)
-    (c .before .before .before .before .before .before .before .before .before .before .put2 .ensures)
-    (c .before .before .before .before .before .before .name .ensures)
+    let s : tie.Start = search in
+    let at-name : tie.After-name = search in
+    let at-put2 : tie.After-put2 = search in
+    let at-numeral2 : tie.After-numeral2 = search in
+    let at-put : tie.After-put = search in
+    let at-numeral : tie.After-numeral = search in
+    let at-places : tie.After-places = search in
+    let a = s .args in
+    row-written (Wrote (a .out .now) (a .at)) (a .place) (a .code) (a .width) (a .action) (at-places .places .result) _ _ _ _ _ _ (at-places .places .ensures)
+    (at-numeral .numeral .ensures)
+    (at-put .put .ensures)
+    (at-numeral2 .numeral2 .ensures)
+    (at-put2 .put2 .ensures)
+    (at-name .name .ensures)
     (c .before .before .put3 .ensures)
 
 pub row-spec : {M : Type 1} → statement M

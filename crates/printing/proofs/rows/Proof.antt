@@ -21,7 +21,8 @@ abbrev μ-loop : tie.MeasureT-loop
 inside :
     (c : tie.In-loop Inv-loop μ-loop) → let a = c .before .before .before .before .before .before .args in Reached (a .codes .now) (a .widths .now) (a .actions .now) (c .before .loop .i)
 inside c =
-    let a = c .before .before .before .before .before .before .args in
+    let s : tie.Start Inv-loop μ-loop = search in
+    let a = s .args in
     reached (a .codes .now) (a .widths .now) (a .actions .now) (c .before .loop .i) (c .loop-test .taken)
 
 loop-holds : tie.Need-loop-holds Inv-loop μ-loop
@@ -37,24 +38,33 @@ shared-slice-read-row-2 : tie.Need-shared-slice-read-row-2 Inv-loop μ-loop
 shared-slice-read-row-2 c = inside (c .before .before .before) .width
 
 shared-slice-read-row-3 : tie.Need-shared-slice-read-row-3 Inv-loop μ-loop
-shared-slice-read-row-3 c = inside (c .before .before .before .before) .action
+shared-slice-read-row-3 c =
+    let at-in-loop : tie.In-loop Inv-loop μ-loop = search in
+    inside (at-in-loop) .action
 
 row-requires : tie.Need-row-requires Inv-loop μ-loop
 row-requires c κs = search needs
 
 add-i : tie.Need-add-i Inv-loop μ-loop
-add-i c = omega (arith, inside (c .before .before .before .before .before .before .before) .code)
+add-i c =
+    let at-in-loop : tie.In-loop Inv-loop μ-loop = search in
+    omega (arith, inside (at-in-loop) .code)
 
 loop-less : tie.Need-loop-less Inv-loop μ-loop
-loop-less c = omega (arith, inside (c .before .before .before .before .before .before .before) .code)
+loop-less c =
+    let at-in-loop : tie.In-loop Inv-loop μ-loop = search in
+    omega (arith, inside (at-in-loop) .code)
 
 loop-again : tie.Need-loop-again Inv-loop μ-loop
 loop-again c =
-    let l = c .before .before .before .before .before .before .before .before .loop in
-    let a = c .before .before .before .before .before .before .before .before .before .before .before .before .before .args in (
-      omega (arith, inside (c .before .before .before .before .before .before .before) .code),
+    let s : tie.Start Inv-loop μ-loop = search in
+    let at-in-loop : tie.In-loop Inv-loop μ-loop = search in
+    let at-loop : tie.At-loop Inv-loop μ-loop = search in
+    let l = at-loop .loop in
+    let a = s .args in (
+      omega (arith, inside (at-in-loop) .code),
       search needs,
-      l .inv .2 ∙ rows-next (a .codes .now) (a .widths .now) (a .actions .now) (l .i) (Wrote (l .out) (l .k)) _ (c .before .before .before .before .before .before .before .loop-test .taken) (c .before .before .row .ensures),
+      l .inv .2 ∙ rows-next (a .codes .now) (a .widths .now) (a .actions .now) (l .i) (Wrote (l .out) (l .k)) _ (at-in-loop .loop-test .taken) (c .before .before .row .ensures),
     )
 
 same-length : tie.Need-same-length Inv-loop μ-loop
@@ -62,8 +72,9 @@ same-length c = search needs
 
 returns : tie.Need-returns Inv-loop μ-loop
 returns c =
+    let s : tie.Start Inv-loop μ-loop = search in
     let l = c .before .loop in
-    let a = c .before .before .before .before .before .before .args in
+    let a = s .args in
     sym (l .inv .2 ∙ ap (writes (Wrote (l .out) (l .k))) (rows-end (a .codes .now) (a .widths .now) (a .actions .now) (l .i) (c .loop-test .left)))
 
 pub rows-spec : {M : Type 1} → statement M

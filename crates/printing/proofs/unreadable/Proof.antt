@@ -17,7 +17,9 @@ same-length : tie.Need-same-length
 same-length c = search needs
 
 returns : tie.Need-returns
-returns c = c .before .before .put-all .ensures ∙ writes-filled (c .before .before .before .before .before .before .args .out .now) unreadableText
+returns c =
+    let s : tie.Start = search in
+    c .before .before .put-all .ensures ∙ writes-filled (s .args .out .now) unreadableText
 
 pub unreadable-spec : {M : Type 1} → statement M
 unreadable-spec = tie.close (tie.spec slice-aggregate-put-all put-all-requires same-length returns)

@@ -21,7 +21,9 @@ slice-aggregate-exactly : tie.Need-slice-aggregate-exactly
 slice-aggregate-exactly c = search needs
 
 exactly-requires : tie.Need-exactly-requires
-exactly-requires c κs = took-place _ _ (c .before .before .head .given .1) (c .before .before .before .before .headed .ensures) .1
+exactly-requires c κs =
+    let at-headed : tie.After-headed = search in
+    took-place _ _ (c .before .before .head .given .1) (at-headed .headed .ensures) .1
 
 enum-known-subtable : tie.Need-enum-known-subtable
 enum-known-subtable c = c .match2 .keys1
@@ -36,9 +38,10 @@ returns-2 c =
 
 counted-requires : tie.Need-counted-requires
 counted-requires c κs =
+    let start : tie.Start = search in
     let s = c .before in
     let e = s .before .before in
-    (took-place _ _ (s .subtable .given .1) (e .exactly .ensures) .1, e .before .before .before .before .before .before .before .pre)
+    (took-place _ _ (s .subtable .given .1) (e .exactly .ensures) .1, start .pre)
 
 returns-3 : tie.Need-returns-3
 returns-3 c =

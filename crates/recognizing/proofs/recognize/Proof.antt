@@ -19,9 +19,10 @@ first-other m =
 -- nor one of pairs
 second-other : (n : tie.Else3) → Other (ligatureScan 2 (from (n .before .before .before .before .before .before .before .before .args .bytes .now) 0))
 second-other n =
+    let s : tie.Start = search in
     let f = n .before in
     let l = f .before in
-    ligature-other (l .before .before .before .before .before .before .args .bytes .now) (l .ligature .result) 2 (l .ligature .ensures .0) (sym (f .ends2 .ensures) ∙ n .if3 .left)
+    ligature-other (s .args .bytes .now) (l .ligature .result) 2 (l .ligature .ensures .0) (sym (f .ends2 .ensures) ∙ n .if3 .left)
 
 returns : tie.Need-returns
 returns c = read-odd (c .before .before .args .bytes .now) (λ e. omega (arith, e, c .if1 .taken))

@@ -42,8 +42,11 @@ loop-less c = search needs
 
 loop-again : tie.Need-loop-again Inv-loop μ-loop
 loop-again c =
-    let l = c .before .before .before .before .before .before in
-    stored-next (l .loop .inv) (l .before .before .before .before .pre .0) (c .before .before .before .before .before .loop-test .taken) _ (c .new-action .ensures)
+    let s : tie.Start Inv-loop μ-loop = search in
+    let at-in-loop : tie.In-loop Inv-loop μ-loop = search in
+    let at-loop : tie.At-loop Inv-loop μ-loop = search in
+    let l = at-loop in
+    stored-next (l .loop .inv) (s .pre .0) (at-in-loop .loop-test .taken) _ (c .new-action .ensures)
 
 same-length : tie.Need-same-length Inv-loop μ-loop
 same-length c = search needs

@@ -36,7 +36,9 @@ accepted : (c : tie.After-enum-told) → let s = c .before .before .before .befo
 accepted c = ap said (sym (c .enum-told .given .1)) ∙ found (c .before .before)
 
 given : (c : tie.After-enum-told) → let s = c .before .before .before .before .before .before in Allowed (asked s) (lent s)
-given c = let s = c .before .before .before .before .before .before in allowed (asked s) (lent s) (sym (accepted c))
+given c =
+    let start : tie.Start = search in
+    let s = start in allowed (asked s) (lent s) (sym (accepted c))
 
 refused-requires : tie.Need-refused-requires
 refused-requires c κs = search needs
@@ -50,14 +52,16 @@ enum-told c = search needs
 -- refused
 returns-2 : tie.Need-returns-2
 returns-2 c =
-    let s = c .before .before .before .before .before .before .before in
+    let start : tie.Start = search in
+    let s = start in
     let k = c .before .verdict .given .0 .0 in
     left-refused _ (old s) (new s) _ (ap said (sym (c .before .verdict .given .1)) ∙ found (c .before .before .before)) (refused-number k)
 
 -- accepted, without a mask
 returns : tie.Need-returns
 returns c =
-    let s = c .before .before .before .before .before .before .before in
+    let start : tie.Start = search in
+    let s = start in
     left-done _ (old s) (new s) _ _ (accepted (c .before)) refl (recorded-unmasked (asked s) (lent s) (c .if1 .taken))
 
 record-all-requires : tie.Need-record-all-requires
@@ -69,8 +73,10 @@ same-length c = search needs
 -- and with one
 returns-3 : tie.Need-returns-3
 returns-3 c =
-    let e = c .before .before .before .before in
-    let s = e .before .before .before .before .before .before .before in
+    let start : tie.Start = search in
+    let at-else1 : tie.Else1 = search in
+    let e = at-else1 in
+    let s = start in
     let done = c .before .before .record-all in
     left-done _ (old s) (new s) _ _ (accepted (e .before)) refl (recorded-masked (asked s) (lent s) (e .if1 .left) (done .ensures .0) (done .ensures .1))
 

@@ -17,7 +17,8 @@ substitutes-fit k i = omega (arith, k .before .shared-slice-known2 .given i)
 
 returns : tie.Need-returns
 returns c =
-    let a = c .before .before .before .before .args in
+    let s : tie.Start = search in
+    let a = s .args in
     uneven-refused (a .flags) (a .glyphs .now) (a .substitutes .now) (a .area .now) (c .if1 .taken)
 
 returns-2 : tie.Need-returns-2
@@ -67,10 +68,13 @@ put-words-requires-4 c κs = search needs
 
 same-length : tie.Need-same-length
 same-length c =
+    let at-put-words3 : tie.After-put-words3 = search in
+    let at-put-words2 : tie.After-put-words2 = search in
+    let at-put-words : tie.After-put-words = search in
     let d = c .before .before in
-    let t = d .before .before .before .before in
-    let s = t .before .before .before .before .before in
-    let f = s .before .before .before .before in
+    let t = at-put-words3 in
+    let s = at-put-words2 in
+    let f = at-put-words in
     d .put-words4 .ensures .same ∙ t .put-words3 .ensures .same ∙ s .put-words2 .ensures .same ∙ f .put-words .ensures .same
 
 returns-4 : tie.Need-returns-4

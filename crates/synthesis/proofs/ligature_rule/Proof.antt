@@ -27,17 +27,20 @@ next :
     (p : tie.After-part Inv-loop μ-loop) → let l = p .before .before .before .before .before in let w = l .before .before .before in let a = w .before .before .before .before .before .before .args in
     Packing (fontOf (a .codes .now) (a .glyphs .now)) (a .n) (a .components .now) (a .at) (w .whole .given .0 .0 .0) (l .loop .k - 1) (l .loop .x * 65536 + p .part .given .0 .0 .0)
 next p =
+    let start : tie.Start Inv-loop μ-loop = search in
     let g = p .before .before in
     let t = g .before .before in
     let l = t .before in
-    let s = l .before .before .before .before .before .before .before .before .before in
+    let s = start in
     let a = s .args in
     packing-next (fontOf (a .codes .now) (a .glyphs .now)) (a .n) (a .components .now) (a .at) (s .pre .3) (l .loop .inv) (l .loop .k - 1) (omega (arith, t .loop-test .taken)) (glyph-told (g .glyph-for-codepoint2 .ensures) (p .part .given .1))
 
 bound : (p : tie.After-part Inv-loop μ-loop) → p .before .before .before .before .before .loop .x * 65536 + p .part .given .0 .0 .0 < 18446744073709551616
 bound p =
-    let w = p .before .before .before .before .before .before .before .before in
-    let s = w .before .before .before .before .before .before in
+    let start : tie.Start Inv-loop μ-loop = search in
+    let at-whole : tie.After-whole Inv-loop μ-loop = search in
+    let w = at-whole in
+    let s = start in
     let a = s .args in
     let told = whole-told w in
     packing-fits (fontOf (a .codes .now) (a .glyphs .now)) (a .n) (a .components .now) (a .at) (s .pre .3) (next p) (omega (arith, told .0, told .1)) (s .pre .2)
@@ -55,8 +58,9 @@ enum-told c = search needs
 
 returns : tie.Need-returns Inv-loop μ-loop
 returns c =
+    let s : tie.Start Inv-loop μ-loop = search in
     let g = c .before .before in
-    let a = g .before .before .before .before .args in
+    let a = s .args in
     ligature-missing (fontOf (a .codes .now) (a .glyphs .now)) (a .n) (a .components .now) (a .at) (a .ligature) (glyph-missing (g .glyph-for-codepoint .ensures) (c .enum-told .given .1))
 
 cast-x : tie.Need-cast-x Inv-loop μ-loop
@@ -64,7 +68,8 @@ cast-x c = let told = whole-told (c .before .before) in omega (arith, told .0, t
 
 loop-holds : tie.Need-loop-holds Inv-loop μ-loop
 loop-holds c =
-    let s = c .before .before .before .before .before .before .before .before in
+    let start : tie.Start Inv-loop μ-loop = search in
+    let s = start in
     let a = s .args in
     packing-begins (fontOf (a .codes .now) (a .glyphs .now)) (a .n) (a .components .now) (a .at) (s .pre .3) _
 
@@ -82,12 +87,14 @@ shared-slice-read-t20 c = omega arith
 
 cast-t21 : tie.Need-cast-t21 Inv-loop μ-loop
 cast-t21 c =
+    let s : tie.Start Inv-loop μ-loop = search in
     let l = c .before .before in
-    omega (arith, c .shared-slice-known4 .given (l .before .before .before .before .before .before .before .before .before .args .at + (l .loop .k - 1)))
+    omega (arith, c .shared-slice-known4 .given (s .args .at + (l .loop .k - 1)))
 
 glyph-for-codepoint-requires-2 : tie.Need-glyph-for-codepoint-requires-2 Inv-loop μ-loop
 glyph-for-codepoint-requires-2 c κs =
-    let p = c .before .before .before .before .before .before .before .before .before .before .before .pre in
+    let s : tie.Start Inv-loop μ-loop = search in
+    let p = s .pre in
     (p .0, p .1)
 
 enum-known-part : tie.Need-enum-known-part Inv-loop μ-loop
@@ -98,10 +105,11 @@ enum-told-2 c = search needs
 
 returns-2 : tie.Need-returns-2 Inv-loop μ-loop
 returns-2 c =
+    let start : tie.Start Inv-loop μ-loop = search in
     let g = c .before .before in
     let t = g .before .before in
     let l = t .before in
-    let s = l .before .before .before .before .before .before .before .before .before in
+    let s = start in
     let a = s .args in
     packing-stops (fontOf (a .codes .now) (a .glyphs .now)) (a .n) (a .components .now) (a .at) (s .pre .3) (l .loop .inv) (l .loop .k - 1) (omega (arith, t .loop-test .taken)) (a .ligature) (glyph-missing (g .glyph-for-codepoint2 .ensures) (c .enum-told2 .given .1))
 
@@ -122,9 +130,10 @@ loop-again c = next (c .before .before)
 
 returns-3 : tie.Need-returns-3 Inv-loop μ-loop
 returns-3 c =
+    let start : tie.Start Inv-loop μ-loop = search in
     let l = c .before in
     let w = l .before .before .before in
-    let s = w .before .before .before .before .before .before in
+    let s = start in
     let a = s .args in
     packing-ends (fontOf (a .codes .now) (a .glyphs .now)) (a .n) (a .components .now) (a .at) (s .pre .3) (l .loop .inv) (a .ligature) (omega (arith, c .loop-test .left)) (whole-told w)
 

@@ -17,8 +17,9 @@ single-rule-requires c κs = search needs
 
 returns : tie.Need-returns
 returns c =
+    let start : tie.Start = search in
     let t = c .before .before in
-    let s = t .before .before .before .before in
+    let s = start in
     let a = s .args in
     kind-single (fontOf (a .codes .now) (a .glyphs .now)) (a .n) (a .components .now) (a .at) (a .ligature) (t .if1 .taken) (s .pre .4) (c .single-rule .ensures)
 
@@ -27,8 +28,9 @@ ligature-rule-requires c κs = search needs
 
 returns-2 : tie.Need-returns-2
 returns-2 c =
+    let s : tie.Start = search in
     let e = c .before in
-    let a = e .before .before .before .before .args in
+    let a = s .args in
     kind-ligature (fontOf (a .codes .now) (a .glyphs .now)) (a .n) (a .components .now) (a .at) (a .ligature) (e .if1 .left) (c .ligature-rule .ensures)
 
 pub rule-of-spec : {M : Type 1} → statement M

@@ -48,7 +48,8 @@ returns-3 c =
 
 returns-4 : tie.Need-returns-4
 returns-4 c =
-    let y = c .before .before .before .before in
+    let at-glyph : tie.After-glyph = search in
+    let y = at-glyph in
     let d = y .before .before in
     let t = d .before .before in
     let g = t .before .before in
@@ -70,8 +71,9 @@ add-t16 c = search needs
 
 returns-5 : tie.Need-returns-5
 returns-5 c =
+    let at-glyph : tie.After-glyph = search in
     let m = c .before .before in
-    let y = m .before .before .before .before in
+    let y = at-glyph in
     let d = y .before .before in
     let t = d .before .before in
     let g = t .before .before in

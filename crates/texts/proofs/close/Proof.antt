@@ -30,8 +30,10 @@ same-length-4 c = search needs
 
 returns : tie.Need-returns
 returns c =
-    let f = c .before .before .before .before .before .before .before .before .before .finish in
-    let k = c .before .before .before .before .before .before .before .before .before .before .before .before .before .before .before .before .before .before in
+    let s : tie.Start = search in
+    let at-finish : tie.After-finish = search in
+    let f = at-finish .finish in
+    let k = s in
     let a = k .args in
     let good = k .good in
     let short : Short (a .codes .now) (a .widths .now) (a .types .now) (a .categories .now) = record { codes = omega (arith, good .1 .0); widths = omega (arith, good .1 .1 .0); types = omega (arith, good .1 .1 .1 .0); categories = omega (arith, good .1 .1 .1 .1 .0) } in

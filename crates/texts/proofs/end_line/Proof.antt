@@ -50,7 +50,14 @@ same-length-4 c = search needs
 
 returns-2 : tie.Need-returns-2
 unfolding ended
-returns-2 c = rw (← (c .before .before .before .before .before .before .before .before .before .before .before .before .before .before .before .before .before .before .before .before .before .said .ensures .0), c .before .before .before .before .before .before .before .before .before .before .before .before .before .before .before .before .before .before .before .e .given .1, c .start .ensures, c .before .up .ensures, c .before .before .before .before .before .before .before .before .before .before .before .before .before .before .before .before .store-u32 .ensures, c .before .before .before .before .before .before .before .before .before .before .before .before .store-u8 .ensures, c .before .before .before .before .before .before .before .before .store-u82 .ensures, c .before .before .before .before .store-u83 .ensures)
+returns-2 c =
+    let at-store-u83 : tie.After-store-u83 = search in
+    let at-store-u82 : tie.After-store-u82 = search in
+    let at-store-u8 : tie.After-store-u8 = search in
+    let at-store-u32 : tie.After-store-u32 = search in
+    let at-e : tie.After-e = search in
+    let at-said : tie.After-said = search in
+    rw (← (at-said .said .ensures .0), at-e .e .given .1, c .start .ensures, c .before .up .ensures, at-store-u32 .store-u32 .ensures, at-store-u8 .store-u8 .ensures, at-store-u82 .store-u82 .ensures, at-store-u83 .store-u83 .ensures)
 
 pub end-line-spec : {M : Type 1} → statement M
 end-line-spec =

@@ -26,7 +26,10 @@ same-length-4 c = search needs
 
 returns-2 : tie.Need-returns-2
 unfolding finished
-returns-2 c = rw (c .before .before .before .before .before .before .before .before .before .before .before .before .before .if1 .left) (c .before .before .before .before .before .before .before .before .end-line .ensures)
+returns-2 c =
+    let at-end-line : tie.After-end-line = search in
+    let at-else1 : tie.Else1 = search in
+    rw (at-else1 .if1 .left) (at-end-line .end-line .ensures)
 
 pub finish-spec : {M : Type 1} → statement M
 finish-spec =

@@ -38,13 +38,17 @@ loop-less c = search needs
 
 loop-again : tie.Need-loop-again Inv-loop μ-loop
 loop-again c =
-    let l = c .before .before .before .before .before .before .before .before .before .before .before .before .before .before .before .loop in (
+    let s : tie.Start Inv-loop μ-loop = search in
+    let at-step : tie.After-step Inv-loop μ-loop = search in
+    let at-in-loop : tie.In-loop Inv-loop μ-loop = search in
+    let at-loop : tie.At-loop Inv-loop μ-loop = search in
+    let l = at-loop .loop in (
       search needs,
       search needs,
       search needs,
       search needs,
       search needs,
-      l .inv .5 ∙ read-next (c .before .before .before .before .before .before .before .before .before .before .before .before .before .before .before .before .before .before .before .before .before .args .piece .now) (l .i) _ _ (c .before .before .before .before .before .before .before .before .before .before .before .before .before .before .loop-test .taken) (c .before .before .before .before .before .before .before .before .step .ensures),
+      l .inv .5 ∙ read-next (s .args .piece .now) (l .i) _ _ (at-in-loop .loop-test .taken) (at-step .step .ensures),
     )
 
 same-length : tie.Need-same-length Inv-loop μ-loop

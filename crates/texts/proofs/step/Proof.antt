@@ -23,7 +23,10 @@ same-length-4 c = search needs
 
 returns : tie.Need-returns
 unfolding stepped
-returns c = rw (eq-eqb _ _ (c .before .before .before .before .before .before .before .before .before .before .before .before .before .if1 .taken)) (c .before .before .before .before .before .before .before .before .end-line .ensures)
+returns c =
+    let at-end-line : tie.After-end-line = search in
+    let at-then1 : tie.Then1 = search in
+    rw (eq-eqb _ _ (at-then1 .if1 .taken)) (at-end-line .end-line .ensures)
 
 within-requires : tie.Need-within-requires
 within-requires c κs = search needs

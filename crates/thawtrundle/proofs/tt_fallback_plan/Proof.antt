@@ -15,7 +15,9 @@ same-length : tie.Need-same-length
 same-length c = search needs
 
 returns : tie.Need-returns
-returns c = handed (c .number .ensures) (c .before .before .before .before .before .new .ensures)
+returns c =
+    let called : tie.After-new = search in
+    handed (c .number .ensures) (called .new .ensures)
 
 pub tt-fallback-plan-spec : {M : Type 1} → statement M
 tt-fallback-plan-spec = tie.close (tie.spec new-requires number-requires same-length returns)

@@ -18,7 +18,9 @@ same-length-2 : tie.Need-same-length-2
 same-length-2 c = search needs
 
 returns : tie.Need-returns
-returns c = handed (c .number .ensures) (c .before .before .before .before .before .join-line .ensures)
+returns c =
+    let called : tie.After-join-line = search in
+    handed (c .number .ensures) (called .join-line .ensures)
 
 pub tt-join-line-spec : {M : Type 1} → statement M
 tt-join-line-spec =

@@ -32,7 +32,7 @@ same-length-2 c = search needs
 returns : tie.Need-returns
 returns c =
     let k = c .before .before .before in
-    let r = k .before .before .before .before .before .before in
+    let r : tie.After-read-lookup = search in
     read-as _ _ (r .read-lookup .ensures) (k .lookup .given .0 .0) (k .lookup .given .1) (c .before .type-of .ensures) (c .components-of .ensures)
 
 same-length-3 : tie.Need-same-length-3
@@ -44,7 +44,7 @@ same-length-4 c = search needs
 returns-2 : tie.Need-returns-2
 returns-2 c =
     let k = c .before .before in
-    let r = k .before .before .before .before .before .before in
+    let r : tie.After-read-lookup = search in
     unread-as _ _ (r .read-lookup .ensures) (k .refusal .given .0 .0) (k .refusal .given .1) (c .number .ensures)
 
 pub tt-read-lookup-spec : {M : Type 1} → statement M

@@ -19,7 +19,9 @@ same-length : tie.Need-same-length
 same-length c = search needs
 
 returns : tie.Need-returns
-returns c = handed-with recordOutcome _ (c .number .ensures) (c .before .recorded .ensures) (c .before .before .before .before .record-stch .ensures)
+returns c =
+    let called : tie.After-record-stch = search in
+    handed-with recordOutcome _ (c .number .ensures) (c .before .recorded .ensures) (called .record-stch .ensures)
 
 pub tt-record-stch-spec : {M : Type 1} → statement M
 tt-record-stch-spec =

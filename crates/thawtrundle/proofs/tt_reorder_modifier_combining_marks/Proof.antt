@@ -36,7 +36,7 @@ returns : tie.Need-returns
 returns c =
     let t = c .before in
     let k = t .before .before .before in
-    let r = k .before .before .before .before .before .before in
+    let r : tie.After-reorder-modifier-combining-marks = search in
     reordered-as _ _ (r .reorder-modifier-combining-marks .ensures) (k .merged .given .0 .0) (k .merged .given .1) (rw (t .enum-told .given .1)) (rw (t .enum-told .given .1))
 
 same-length-3 : tie.Need-same-length-3
@@ -49,7 +49,7 @@ returns-2 : tie.Need-returns-2
 returns-2 c =
     let t = c .before .before in
     let k = t .before .before .before in
-    let r = k .before .before .before .before .before .before in
+    let r : tie.After-reorder-modifier-combining-marks = search in
     reordered-as _ _ (r .reorder-modifier-combining-marks .ensures) (k .merged .given .0 .0) (k .merged .given .1) (rw (t .merged2 .given .1)) (rw (t .merged2 .given .1))
 
 same-length-5 : tie.Need-same-length-5
@@ -62,7 +62,7 @@ returns-3 : tie.Need-returns-3
 returns-3 c =
     let t = c .before .before in
     let k = t .before .before .before in
-    let r = k .before .before .before .before .before .before in
+    let r : tie.After-reorder-modifier-combining-marks = search in
     reordered-as _ _ (r .reorder-modifier-combining-marks .ensures) (k .merged .given .0 .0) (k .merged .given .1) (rw (t .merged3 .given .1)) (rw (t .merged3 .given .1))
 
 same-length-7 : tie.Need-same-length-7
@@ -74,7 +74,7 @@ same-length-8 c = search needs
 returns-4 : tie.Need-returns-4
 returns-4 c =
     let k = c .before .before .before in
-    let r = k .before .before .before .before .before .before in
+    let r : tie.After-reorder-modifier-combining-marks = search in
     unmoved-as _ _ (r .reorder-modifier-combining-marks .ensures) (k .refusal .given .0 .0) (k .refusal .given .1) (c .number .ensures)
 
 pub tt-reorder-modifier-combining-marks-spec : {M : Type 1} → statement M

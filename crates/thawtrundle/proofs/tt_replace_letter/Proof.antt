@@ -27,7 +27,9 @@ same-length-5 : tie.Need-same-length-5
 same-length-5 c = search needs
 
 returns : tie.Need-returns
-returns c = handed (c .number .ensures) (c .before .before .before .before .before .before .before .before .before .before .before .replace-letter .ensures)
+returns c =
+    let called : tie.After-replace-letter = search in
+    handed (c .number .ensures) (called .replace-letter .ensures)
 
 pub tt-replace-letter-spec : {M : Type 1} → statement M
 tt-replace-letter-spec =

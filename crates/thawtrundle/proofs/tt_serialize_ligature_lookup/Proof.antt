@@ -19,7 +19,9 @@ same-length : tie.Need-same-length
 same-length c = search needs
 
 returns : tie.Need-returns
-returns c = handed-with writeOutcome _ (c .number .ensures) (c .before .length .ensures) (c .before .before .before .before .serialize-ligature-lookup .ensures)
+returns c =
+    let called : tie.After-serialize-ligature-lookup = search in
+    handed-with writeOutcome _ (c .number .ensures) (c .before .length .ensures) (called .serialize-ligature-lookup .ensures)
 
 pub tt-serialize-ligature-lookup-spec : {M : Type 1} → statement M
 tt-serialize-ligature-lookup-spec =

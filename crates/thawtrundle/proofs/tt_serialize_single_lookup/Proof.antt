@@ -19,7 +19,9 @@ same-length : tie.Need-same-length
 same-length c = search needs
 
 returns : tie.Need-returns
-returns c = handed-with writeOutcome _ (c .number .ensures) (c .before .length .ensures) (c .before .before .before .before .serialize-single-lookup .ensures)
+returns c =
+    let called : tie.After-serialize-single-lookup = search in
+    handed-with writeOutcome _ (c .number .ensures) (c .before .length .ensures) (called .serialize-single-lookup .ensures)
 
 pub tt-serialize-single-lookup-spec : {M : Type 1} → statement M
 tt-serialize-single-lookup-spec =

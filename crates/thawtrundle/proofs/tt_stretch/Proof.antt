@@ -37,7 +37,9 @@ same-length-7 : tie.Need-same-length-7
 same-length-7 c = search needs
 
 returns : tie.Need-returns
-returns c = handed-with stretchOutcome _ (c .number .ensures) (c .before .length .ensures) (c .before .before .before .before .before .before .before .before .before .before .before .before .before .stretch .ensures)
+returns c =
+    let called : tie.After-stretch = search in
+    handed-with stretchOutcome _ (c .number .ensures) (c .before .length .ensures) (called .stretch .ensures)
 
 pub tt-stretch-spec : {M : Type 1} → statement M
 tt-stretch-spec =

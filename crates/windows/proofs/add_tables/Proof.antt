@@ -37,11 +37,17 @@ begins k = reached-begin (k .new .result) (k .before .before .args .scratch .now
 
 after-lam-alef : (k : tie.After-add-direct-lookup) → Reached (to-lam-alef (k .before .before .before .before .before .before .args .t1)) 1 14354 (length (k .before .before .before .before .before .before .args .scratch .now)) (k .add-direct-lookup .result) (k .add-direct-lookup .last .1 .1 .1 .1 .1 .1 .0)
 unfolding flat
-after-lam-alef k = reached-more (begins (k .before .before .before .before)) (rules-added (rligOf (k .before .before .before .before .before .before .args .t1)) ignoreMarks (Ligature 2) lamAlef (omega arith) _ _ refl refl (k .add-direct-lookup .ensures)) (k .add-direct-lookup .kept .1 .1 .1 .1 .1 .1 .0)
+after-lam-alef k =
+    let s : tie.Start = search in
+    let at-new : tie.After-new = search in
+    reached-more (begins (at-new)) (rules-added (rligOf (s .args .t1)) ignoreMarks (Ligature 2) lamAlef (omega arith) _ _ refl refl (k .add-direct-lookup .ensures)) (k .add-direct-lookup .kept .1 .1 .1 .1 .1 .1 .0)
 
 after-init : (k : tie.After-add-direct-lookup2) → Reached (to-init (k .before .before .before .before .before .before .before .before .before .before .before .before .args .t1)) 2 18468 (length (k .before .before .before .before .before .before .before .before .before .before .before .before .args .scratch .now)) (k .add-direct-lookup2 .result) (k .add-direct-lookup2 .last .1 .1 .1 .1 .1 .1 .0)
 unfolding flat
-after-init k = reached-more (after-lam-alef (k .before .before .before .before .before .before)) (rules-added (initOf (k .before .before .before .before .before .before .before .before .before .before .before .before .args .t1)) ignoreMarks Single initial (omega arith) _ _ refl refl (k .add-direct-lookup2 .ensures)) (k .add-direct-lookup2 .kept .1 .1 .1 .1 .1 .1 .0)
+after-init k =
+    let s : tie.Start = search in
+    let at-add-direct-lookup : tie.After-add-direct-lookup = search in
+    reached-more (after-lam-alef (at-add-direct-lookup)) (rules-added (initOf (s .args .t1)) ignoreMarks Single initial (omega arith) _ _ refl refl (k .add-direct-lookup2 .ensures)) (k .add-direct-lookup2 .kept .1 .1 .1 .1 .1 .1 .0)
 
 after-medi : (k : tie.After-add-direct-lookup3) → Reached (to-medi (k .before .before .before .before .before .before .before .before .before .before .before .before .before .before .before .before .before .before .args .t1)) 3 22582 (length (k .before .before .before .before .before .before .before .before .before .before .before .before .before .before .before .before .before .before .args .scratch .now)) (k .add-direct-lookup3 .result) (k .add-direct-lookup3 .last .1 .1 .1 .1 .1 .1 .0)
 unfolding flat
@@ -68,7 +74,9 @@ slice-aggregate-add-direct-lookup-2 : tie.Need-slice-aggregate-add-direct-lookup
 slice-aggregate-add-direct-lookup-2 c = search needs
 
 add-direct-lookup-requires : tie.Need-add-direct-lookup-requires
-add-direct-lookup-requires c κs = reached-fit (begins (c .before .before .before)) (omega arith) (Ligature 2) (omega (arith, c .before .before .before .before .before .pre)) (omega (arith, c .before .before .before .before .before .pre)) refl _ _ refl (omega arith)
+add-direct-lookup-requires c κs =
+    let s : tie.Start = search in
+    reached-fit (begins (c .before .before .before)) (omega arith) (Ligature 2) (omega (arith, s .pre)) (omega (arith, s .pre)) refl _ _ refl (omega arith)
 
 array-read-add-direct-lookup-2 : tie.Need-array-read-add-direct-lookup-2
 array-read-add-direct-lookup-2 c = search needs
@@ -80,7 +88,10 @@ slice-aggregate-add-direct-lookup-4 : tie.Need-slice-aggregate-add-direct-lookup
 slice-aggregate-add-direct-lookup-4 c = search needs
 
 add-direct-lookup-requires-2 : tie.Need-add-direct-lookup-requires-2
-add-direct-lookup-requires-2 c κs = reached-fit (after-lam-alef (c .before .before .before .before .before)) (omega arith) Single (omega (arith, c .before .before .before .before .before .before .before .before .before .before .before .pre)) (omega (arith, c .before .before .before .before .before .before .before .before .before .before .before .pre)) refl _ _ refl (omega arith)
+add-direct-lookup-requires-2 c κs =
+    let s : tie.Start = search in
+    let at-add-direct-lookup : tie.After-add-direct-lookup = search in
+    reached-fit (after-lam-alef (at-add-direct-lookup)) (omega arith) Single (omega (arith, s .pre)) (omega (arith, s .pre)) refl _ _ refl (omega arith)
 
 array-read-add-direct-lookup-3 : tie.Need-array-read-add-direct-lookup-3
 array-read-add-direct-lookup-3 c = search needs
@@ -92,7 +103,10 @@ slice-aggregate-add-direct-lookup-6 : tie.Need-slice-aggregate-add-direct-lookup
 slice-aggregate-add-direct-lookup-6 c = search needs
 
 add-direct-lookup-requires-3 : tie.Need-add-direct-lookup-requires-3
-add-direct-lookup-requires-3 c κs = reached-fit (after-init (c .before .before .before .before .before)) (omega arith) Single (omega (arith, c .before .before .before .before .before .before .before .before .before .before .before .before .before .before .before .before .before .pre)) (omega (arith, c .before .before .before .before .before .before .before .before .before .before .before .before .before .before .before .before .before .pre)) refl _ _ refl (omega arith)
+add-direct-lookup-requires-3 c κs =
+    let s : tie.Start = search in
+    let at-add-direct-lookup2 : tie.After-add-direct-lookup2 = search in
+    reached-fit (after-init (at-add-direct-lookup2)) (omega arith) Single (omega (arith, s .pre)) (omega (arith, s .pre)) refl _ _ refl (omega arith)
 
 array-read-add-direct-lookup-4 : tie.Need-array-read-add-direct-lookup-4
 array-read-add-direct-lookup-4 c = search needs

@@ -17,7 +17,8 @@ same-length c = search needs
 
 returns : tie.Need-returns
 returns c =
-    let t = c .before .before .before .before in
+    let at-then1 : tie.Then1 = search in
+    let t = at-then1 in
     let e = sym (t .before .is-win1256-font .ensures) ∙ t .if1 .taken in
     rw e (c .before .before .add-tables .ensures)
 
@@ -26,9 +27,10 @@ new-requires c κs = search needs
 
 returns-2 : tie.Need-returns-2
 returns-2 c =
+    let s : tie.Start = search in
     let t = c .before in
     let e = sym (t .before .is-win1256-font .ensures) ∙ t .if1 .left in
-    rw (e, c .new .ensures) (begun-drafted (t .before .before .before .before .before .args .scratch .now))
+    rw (e, c .new .ensures) (begun-drafted (s .args .scratch .now))
 
 pub new-win1256-spec : {M : Type 1} → statement M
 new-win1256-spec =

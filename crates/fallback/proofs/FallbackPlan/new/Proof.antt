@@ -29,10 +29,11 @@ none-requires c κs = search needs
 
 returns : tie.Need-returns
 returns c =
+    let s : tie.Start = search in
     let t = c .before in
     let n = t .before in
     let r = n .before in
-    let b = r .before .before .before .before .before .before .before .before .before .before .before .before in
+    let b = s in
     refused-planning (inputs b) (b .args .area .now) (r .refused .result) (r .refused .ensures) (λ z. t .if1 .taken (n .number .ensures ∙ z)) (c .none .result) (c .none .ensures)
 
 slice-aggregate-plan-in : tie.Need-slice-aggregate-plan-in
@@ -46,9 +47,10 @@ same-length c = search needs
 
 returns-2 : tie.Need-returns-2
 returns-2 c =
+    let s : tie.Start = search in
     let q = c .before .before .before in
     let e = q .before .before .before in
-    let b = e .before .before .before .before .before .before .before .before .before .before .before .before .before .before in
+    let b = s in
     settled-planning (inputs b) (b .args .area .now) (tested e) (q .plan-in .result) (q .plan-in .last .1 .1 .1 .1 .1 .1 .1 .1 .1 .1 .1 .1 .0) (q .plan-in .ensures)
 
 pub new-spec : {M : Type 1} → statement M

@@ -1,4 +1,4 @@
--- The call that makes a plan: `flatBy`, `even`, `short`, `lentRows`, `roomRow`, `planRows`, `planRefusal` when it is refused, and with which number; `PlanOutcome`, `planOutcome`, `nothing`, `made` what is there afterwards; `refusedBy` the answer of a refusal; `Settled`, `Settles` the last step of it; `Passed` what is known where the tests are passed; `planAfter`, `Planning` what the call answers and leaves, of every input.
+-- The call that makes a plan: `flatBy`, `even`, `limited`, `short`, `lentRows`, `roomRow`, `planRows`, `planRefusal` when it is refused, and with which number; `PlanOutcome`, `planOutcome`, `nothing`, `made` what is there afterwards; `refusedBy` the answer of a refusal; `Settled`, `Settles` the last step of it; `Passed` what is known where the tests are passed; `planAfter`, `Planning` what the call answers and leaves, of every input.
 -- Assumes nothing.
 use mathlib.Core.Path.{_≡_}
 use mathlib.Core.Bool.{Bool, not, _&&_}

@@ -1,4 +1,4 @@
--- The call that reorders marks: `ReorderRequest` what is asked for; `Columns` what is lent; `reorderRequest`, `columnsOf` these from a call's parameters, `marksLent` as an `ensures` has them; `ReorderOutcome` what is there afterwards; `line`, `part`, `newPart`, `newLine`, `reordered`, `rangesOf` what reordering
+-- The call that reorders marks: `ReorderRequest` what is asked for; `Columns` what is lent; `reorderRequest`, `columnsOf` these from a call's parameters, `marksLent` as an `ensures` has them; `ReorderOutcome`, `reorderOutcome` what is there afterwards; `line`, `part`, `newPart`, `newLine`, `reordered`, `rangesOf` what reordering
 -- gives; `rowsOf`, `reorderRows`, `reorderRefusal` when it is refused, and with which number; `span`, `listed`, `numberSaid`, `rangesSaid` what an answer says; `reorderAfter`, `Reordering` what the call answers
 -- and leaves, of every input.
 -- Assumes nothing.

@@ -1,4 +1,4 @@
--- The call that reads a lookup back (document 01, "Reading back"): `Columns`, `listOf` what is lent; `listLent` the same from a call's parameters, as an `ensures` has them; `ReadOutcome` what is there afterwards; `typeOf`, `componentsOf` what a kind says; `nothing`, `found` what is there with no lookup read, and with one; `accepted`, `lacking`, `readRows`, `readRefusal` when reading is refused, and with which number;
+-- The call that reads a lookup back (document 01, "Reading back"): `Columns`, `listOf` what is lent; `listLent` the same from a call's parameters, as an `ensures` has them; `ReadOutcome` what is there afterwards; `typeOf`, `componentsOf` what a kind says; `nothing`, `found`, `made` what is there with no lookup read, with one, and as the bytes decide; `accepted`, `lacking`, `readRows`, `readRefusal` when reading is refused, and with which number;
 -- `readNumber`, `outcomeSaid` what an answer says; `readAfter`, `Reading` what the call answers and leaves, of every input.
 -- Assumes nothing.
 use mathlib.Core.Path.{_≡_}

@@ -1,7 +1,7 @@
 -- Drafts: one without entries (`begun-drafted`); a lookup that is written behind the others is an entry more (`written-part`, `pushed`); nothing added (`none-added`); where the bytes of a draft end (`drafted-inside`). How far a plan has come, which is made of several lookups (`reached-begin`, `reached-more`), and what is asked of the next (`reached-fit`); the entry of rules that are listed in two columns (`rules-added`).
 -- Assumes nothing.
 use mathlib.Core.Path.{◌≡◌, refl, sym, ap, ◌∙◌}
-use mathlib.Core.Bool.{true, cond, or_false}
+use mathlib.Core.Bool.{true, cond, or-false}
 use mathlib.Core.List.{List, [], ◌∷◌, ◌++◌, append_assoc, append-nil}
 use Prim.Native.Nat.{ℕ, ◌+◌, ◌*◌, ◌-◌, ◌<◌, ◌≤◌}
 use native.Mathlib.Omega.{arith}
@@ -117,4 +117,4 @@ pub rules-added :
     → {bound : ℕ} {d d' : Draft} {scratch scratch' : List ℕ}
     → Added (cond (eqb mask 0) [] (record { mask = mask; lookup = lookup_of flags kind glyphs substitutes } ∷ [])) bound d scratch d' scratch'
     → Added (entry mask flags kind rules) bound d scratch d' scratch'
-rules-added mask flags kind rules h glyphs substitutes e f a = rw (ne_eqb (length rules) 0 (λ z. omega arith), or_false (eqb mask 0), e, f) a
+rules-added mask flags kind rules h glyphs substitutes e f a = rw (ne_eqb (length rules) 0 (λ z. omega arith), or-false (eqb mask 0), e, f) a

@@ -1,7 +1,7 @@
 -- A field, read digit by digit: the state behind it is that of its number, where it has the form, and else that of a text of other form.
 -- Assumes nothing.
 use Prim.Native.Nat.{ℕ, suc, ◌+◌, ◌*◌, ◌^◌, ◌≤◌, ◌<◌}
-use mathlib.Core.Bool.{Bool, true, false, cond, not, ◌&&◌, ◌||◌, and_true, and_false, or-true, false≢true}
+use mathlib.Core.Bool.{Bool, true, false, cond, not, ◌&&◌, ◌||◌, and-true, and-false, or-true, false≢true}
 use mathlib.Core.List.{List, [], ◌∷◌}
 use mathlib.Core.Path.{◌≡◌, refl, sym, ap, ◌∙◌}
 use native.Mathlib.Nat.{add-zero, zero-add, zero-mul, pow-suc, mul-le-mul, pow-le-pow_right}
@@ -44,7 +44,7 @@ digit_grows k d v x h l =
     rw (add-one d, pow-suc 16 d) (omega (arith, mul-le-mul {n₁ = v} {m₁ = base k} {n₂ = v} {m₂ = 16} (omega arith) (base-few k), base-few k))
 
 leads-later : (k d v : ℕ) → 1 ≤ d → leads k (d + 1) v ≡ false
-leads-later k d v h = rw (ne_eqb (d + 1) 1 (λ e. omega arith), and_false)
+leads-later k d v h = rw (ne_eqb (d + 1) 1 (λ e. omega arith), and-false)
 
 -- The states of one field: all but its digits and their number stay.
 module _ (k code width kind lines : ℕ) (field : ltb k 3 ≡ true) where
@@ -61,11 +61,11 @@ module _ (k code width kind lines : ℕ) (field : ltb k 3 ≡ true) where
 
   one_too_many : (d v x : ℕ) → ltb d (most k) ≡ false → typed (at d v) x ≡ other
   unfolding typed follows
-  one_too_many d v x p = rw (field, p, and_false)
+  one_too_many d v x p = rw (field, p, and-false)
 
   behind_zero : (d v x : ℕ) → leads k d v ≡ true → typed (at d v) x ≡ other
   unfolding typed follows
-  behind_zero d v x p = rw (field, p, and_false, and_false, and_false)
+  behind_zero d v x p = rw (field, p, and-false, and-false, and-false)
 
   -- Digits behind at least one, which is no zero in front.
   digits_more :
@@ -91,7 +91,7 @@ module _ (k code width kind lines : ℕ) (field : ltb k 3 ≡ true) where
           ap (λ (s : State). run_digits s xs) (one_too_many d v (digit x) f)
           ∙ digits-other xs
           ∙ sym (rw (lt-leb (d + suc (length xs)) (most k) (omega arith)))
-      go false e b f ih = ap (λ (s : State). run_digits s xs) (no_digit d v (digit x) e) ∙ digits-other xs ∙ sym (rw and_false)
+      go false e b f ih = ap (λ (s : State). run_digits s xs) (no_digit d v (digit x) e) ∙ digits-other xs ∙ sym (rw and-false)
 
   -- A digit that is no zero in front, or may be one.
   no_zero : (x : ℕ) (xs : List ℕ) → leads k 1 (0 * base k + digit x) ≡ false → (eqb k 0 || bare (x ∷ xs)) ≡ true
@@ -112,7 +112,7 @@ module _ (k code width kind lines : ℕ) (field : ltb k 3 ≡ true) where
   zero_front x (y ∷ ys) f =
       ap (λ (s : State). run_digits s ys) (behind_zero 1 (0 * base k + digit x) (digit y) f)
       ∙ digits-other ys
-      ∙ sym (rw (go (eqb k 0) (eqb (digit x) 0) (rw (zero-mul, zero-add) at f), and_false, and_false))
+      ∙ sym (rw (go (eqb k 0) (eqb (digit x) 0) (rw (zero-mul, zero-add) at f), and-false, and-false))
     where
       go : (a z : Bool) → (not a && z) ≡ true → (a || not z) ≡ false
       go true z f = absurd (false≢true f)
@@ -127,13 +127,13 @@ module _ (k code width kind lines : ℕ) (field : ltb k 3 ≡ true) where
   field_run (x ∷ xs) = go (ltb (digit x) (base k)) refl (leads k 1 (0 * base k + digit x)) refl
     where
       first : ltb (digit x) (base k) ≡ true → typed (at 0 0) (digit x) ≡ at 1 (0 * base k + digit x)
-      first e = follows-at 0 0 (digit x) e (lt-ltb 0 (most k) (omega (arith, most-some k))) (omega arith) (rw and_false)
+      first e = follows-at 0 0 (digit x) e (lt-ltb 0 (most k) (omega (arith, most-some k))) (omega arith) (rw and-false)
 
       go :
           (a : Bool) → ltb (digit x) (base k) ≡ a → (z : Bool) → leads k 1 (0 * base k + digit x) ≡ z
           → run_digits (typed (at 0 0) (digit x)) xs
           ≡ cond (leb (suc (length xs)) (most k) && ((a && all_digits (base k) xs) && (eqb k 0 || bare (x ∷ xs)))) (at (suc (length xs)) (value_from (base k) (0 * base k + digit x) xs)) other
-      go false e z f = ap (λ (s : State). run_digits s xs) (no_digit 0 0 (digit x) e) ∙ digits-other xs ∙ sym (rw and_false)
+      go false e z f = ap (λ (s : State). run_digits s xs) (no_digit 0 0 (digit x) e) ∙ digits-other xs ∙ sym (rw and-false)
       go true e false f =
           let same : 1 + length xs ≡ suc (length xs) = omega arith in
           ap (λ (s : State). run_digits s xs) (first e)
@@ -141,5 +141,5 @@ module _ (k code width kind lines : ℕ) (field : ltb k 3 ≡ true) where
           at (digits_more xs 1 (0 * base k + digit x) (omega arith) (most-some k)
           (digit_grows k 0 0 (digit x) (omega arith) (ltb-true (digit x) (base k) e))
           f)
-          ∙ sym (rw (no_zero x xs f, and_true))
+          ∙ sym (rw (no_zero x xs f, and-true))
       go true e true f = ap (λ (s : State). run_digits s xs) (first e) ∙ zero_front x xs f

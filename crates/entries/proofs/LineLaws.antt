@@ -1,7 +1,7 @@
 -- A line, read byte by byte: at its end its entry is held where it has the form, and else the text is of other form.
 -- Assumes nothing.
 use Prim.Native.Nat.{ℕ}
-use mathlib.Core.Bool.{Bool, true, false, cond, ◌&&◌, and_true, false≢true}
+use mathlib.Core.Bool.{Bool, true, false, cond, ◌&&◌, and-true, false≢true}
 use mathlib.Core.List.{List, [], ◌∷◌}
 use mathlib.Core.Path.{◌≡◌, refl, sym, ap, ◌∙◌}
 use lib.Dec.{leb, eqb}
@@ -87,7 +87,7 @@ behind_type f h n = record { field = 2; digits = 0; value = 0; code = value 16 f
 code-run : (f : List ℕ) (n : ℕ) → parted (run_digits (start n) f) ≡ cond (is_code f) (behind_code f n) other
 unfolding is_code parted
 code-run f n =
-    ap parted (rw and_true at (field_run 0 0 0 0 n refl f))
+    ap parted (rw and-true at (field_run 0 0 0 0 n refl f))
     ∙ through parted (leb 4 (length f)) (leb (length f) 6 && all_digits 16 f) (at 0 0 0 0 n refl (length f) (value 16 f)) (behind_code f n) other refl refl
 
 type-run : (f h : List ℕ) (n : ℕ) → parted (run_digits (behind_code f n) h) ≡ cond (is_number h) (behind_type f h n) other

@@ -3,7 +3,7 @@
 -- Assumes nothing.
 use Prim.Native.Nat.{ℕ, zero, suc, ◌+◌, ◌-◌, ◌<◌, ◌≤◌, ◌*◌, ◌/◌, ◌%◌}
 use mathlib.Core.Path.{◌≡◌, refl, sym, ap, ◌∙◌}
-use mathlib.Core.Bool.{true, false, and_false}
+use mathlib.Core.Bool.{true, false, and-false}
 use native.Mathlib.Omega.{arith}
 use native.Mathlib.Nat.{div-add-mod, div-add-mod', mod-lt, lt-div-mul-add, add-mul, div-le_self, le-div_iff_mul-le}
 use borrow.Author.Tests.{leb-true, leb-false, lt-ltb, le-ltb}
@@ -80,14 +80,14 @@ module _ (room w : ℤ) (t : ℕ) where
 -- without tiles no copy is added
 none-added : (room w : ℤ) → added room w 0 ≡ false
 unfolding added
-none-added room w = and_false (lt_z (w *ℤ pos (whole room w + 1)) room)
+none-added room w = and-false (lt_z (w *ℤ pos (whole room w + 1)) room)
 
 -- ---- w is not above 0, and room exceeds it
 whole_zero : (room w : ℤ) → count w ≡ 0 → whole room w ≡ 0
 unfolding whole count
-whole_zero room (pos zero) z = simp and_false
+whole_zero room (pos zero) z = simp and-false
 whole_zero room (pos (suc n)) z = absurd (omega arith)
-whole_zero room (negsuc n) z = simp and_false
+whole_zero room (negsuc n) z = simp and-false
 
 pub not-twice : (room w : ℤ) → count w ≡ 0 → le_z room w ≡ false → lt_z room (pos 2 *ℤ w) ≡ false
 unfolding count

@@ -1,7 +1,7 @@
 -- Laws of a column of which some records are renewed: their number, the record at a place, renewing the same records, renewing twice, in either order, one record more.
 -- Assumes nothing.
 use mathlib.Core.Path.{◌≡◌, refl, sym, ap, ◌∙◌}
-use mathlib.Core.Bool.{Bool, true, false, cond, ◌&&◌, ◌||◌, and_false}
+use mathlib.Core.Bool.{Bool, true, false, cond, ◌&&◌, ◌||◌, and-false}
 use mathlib.Core.List.{List, [], ◌∷◌}
 use mathlib.Core.Logic.{by_cases}
 use Prim.Native.Nat.{ℕ, zero, suc, ◌+◌, ◌<◌, ◌≤◌}
@@ -123,7 +123,7 @@ span_none k j = go (ltb j k) refl
   where
     go : (b : Bool) → ltb j k ≡ b → span k k j ≡ false
     go true e = simp (lt-leb k j (ltb-true j k e))
-    go false e = simp (e, and_false)
+    go false e = simp (e, and-false)
 
 span-here : (k i : ℕ) → k ≤ i → span k (i + 1) i ≡ true
 span-here k i h = simp (le-leb k i h, lt-ltb i (i + 1) (omega arith))

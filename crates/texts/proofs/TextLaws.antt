@@ -1,7 +1,7 @@
 -- Reading a text byte by byte, in pieces however cut, and closing it gives what the definition by lines says of the whole text: `read_whole`.
 -- Assumes nothing.
 use Prim.Native.Nat.{ℕ, suc, ◌+◌, ◌≤◌, ◌<◌, min}
-use mathlib.Core.Bool.{Bool, true, false, cond, ◌&&◌, and_false}
+use mathlib.Core.Bool.{Bool, true, false, cond, ◌&&◌, and-false}
 use mathlib.Core.List.{List, [], ◌∷◌, ◌++◌}
 use mathlib.Core.Path.{◌≡◌, refl, sym, ap, subst, ◌∙◌}
 use native.Mathlib.Nat.{add-zero, zero-add, add-suc, suc-add, min-eq_left, min-eq_right}
@@ -60,7 +60,7 @@ begun s b =
     fresh-neither (eqb b 32) _ _
     (fresh-neither (eqb s.field 0 && leb 4 s.digits) (before_type s) _ refl
     (fresh-neither (eqb s.field 1 && leb 1 s.digits) (before_category s) other refl refl))
-    (fresh-neither (follows s (digit b)) (grown s (digit b)) other (rw (ne_eqb (s.digits + 1) 0 (λ e. omega arith), and_false)) refl)
+    (fresh-neither (follows s (digit b)) (grown s (digit b)) other (rw (ne_eqb (s.digits + 1) 0 (λ e. omega arith), and-false)) refl)
 
 finished-begun : (h : Held) (b : ℕ) → finished (in_line h b) ≡ ended (in_line h b)
 unfolding finished

@@ -1,7 +1,7 @@
 -- How the repeating tiles of a run cover its room: the numbers of crate fitting are those that the promises name (`Reckoned`, `reckoned`), and no others are (`covers_one`); of a run (`run-reckoned`).
 -- Assumes nothing.
 use mathlib.Core.Path.{◌≡◌, refl, sym, ap, ◌∙◌, subst}
-use mathlib.Core.Bool.{Bool, true, false, true≢false, and_false}
+use mathlib.Core.Bool.{Bool, true, false, true≢false, and-false}
 use mathlib.Core.List.{List, [], ◌∷◌, map}
 use mathlib.Core.Logic.{◌⊎◌, inl, inr}
 use Prim.Native.Nat.{ℕ, zero, suc, ◌+◌, ◌-◌, ◌*◌, ◌/◌, ◌%◌, ◌<◌, ◌≤◌}
@@ -82,7 +82,7 @@ not-above (pos (suc n)) z p = omega (arith, z)
 not-above (negsuc n) z p = absurd p.lt
 
 covers-none : (room w : ℤ) → count w ≡ 0 → Covers room w 0 0
-covers-none room w z = record { enough = λ p. absurd (not-above w z p); fewer = λ p. absurd (not-above w z p); once = λ n. rw (and_false (lt_z w room)) }
+covers-none room w z = record { enough = λ p. absurd (not-above w z p); fewer = λ p. absurd (not-above w z p); once = λ n. rw (and-false (lt_z w room)) }
 
 covers-once : (room w : ℤ) (t : ℕ) → count w ≡ 0 → le_z room w ≡ false → 0 < t → Covers room w t 1
 covers-once room w t z e h = record { enough = λ p. absurd (not-above w z p); fewer = λ p. absurd (not-above w z p); once = λ n. rw (nle_lt room w e, lt-ltb 0 t h) }
@@ -103,7 +103,7 @@ module _ (r v t : ℕ) (p : 0 < v) (q : v < r) where
       let n : r / v - 1 + 1 ≡ r / v = omega arith in
       let whole : (r / v - 1 + 1) * v ≡ r = rw n (omega (arith, d, m)) in
       loose (pos r) (pos v) t (r / v - 1) (fit-even r v p q t m)
-      (rw (le-ltb r ((r / v - 1 + 1) * v) (omega (arith, whole))) (and_false (ltb 0 (r / v - 1))))
+      (rw (le-ltb r ((r / v - 1 + 1) * v) (omega (arith, whole))) (and-false (ltb 0 (r / v - 1))))
       (covers-above (r / v - 1) (omega (arith, whole)) (λ i k. omega (arith, whole, mul-lt-mul_of_pos_right {m = i + 1} {n = r / v - 1 + 1} (omega (arith, k)) p)))
 
   -- with D = copies × tiles

@@ -1,7 +1,7 @@
 -- Of the stretched line by places: sums over places (`total-same`, `total-last`); the records that runs add, as such a sum (`added_in`, `added-places`); where a record comes that is no tile (`plain_at`), and the run that begins at a place (`run_at`); the records of a run that is placed (`run-stands`).
 -- Assumes nothing.
 use mathlib.Core.Path.{◌≡◌, refl, sym, ap, ap₂, ◌∙◌}
-use mathlib.Core.Bool.{Bool, true, false, cond, not, ◌&&◌, true≢false, and_false}
+use mathlib.Core.Bool.{Bool, true, false, cond, not, ◌&&◌, true≢false, and-false}
 use mathlib.Core.List.{List, [], ◌∷◌, ◌++◌, append_assoc}
 use Prim.Native.Nat.{ℕ, zero, suc, ◌+◌, ◌-◌, ◌*◌, ◌<◌, ◌≤◌}
 use native.Mathlib.Omega.{arith}
@@ -101,7 +101,7 @@ split-more rtl inside r rs i rest x = go (is_tile r) refl inside x (added_more i
         }
     go false f n s a =
         let none : length (run (r ∷ rs)) ≡ 0 = rw f in
-        let first : added_in n (r ∷ rs) 0 ≡ 0 = rw (f, and_false (not n)) in
+        let first : added_in n (r ∷ rs) 0 ≡ 0 = rw (f, and-false (not n)) in
         record {
           before = r ∷ s.before;
           parts = worked-plain r rs f rtl n ∙ ap (λ (m : List Record). r ∷ m) s.parts;
@@ -115,8 +115,8 @@ split-more rtl inside r rs i rest x = go (is_tile r) refl inside x (added_more i
 -- at a place where a run begins
 split-run : (rtl inside : Bool) (l : List Record) (i : ℕ) → starts inside l i ≡ true → Split rtl inside l i (placed_run rtl (drop i l) ++ worked rtl true (drop i l))
 unfolding worked
-split-run rtl inside [] zero e = absurd (true≢false (sym e ∙ and_false (not inside)))
-split-run rtl inside [] (suc i) e = absurd (true≢false (sym e ∙ and_false (not (tile_first (drop i [])))))
+split-run rtl inside [] zero e = absurd (true≢false (sym e ∙ and-false (not inside)))
+split-run rtl inside [] (suc i) e = absurd (true≢false (sym e ∙ and-false (not (tile_first (drop i [])))))
 split-run rtl true (r ∷ rs) zero e = absurd (true≢false (sym e))
 split-run rtl false (r ∷ rs) zero e = record { before = []; parts = rw e; long = refl }
 split-run rtl inside (r ∷ rs) (suc i) e = split-more rtl inside r rs i _ (split-run rtl (is_tile r) rs i (sym (starts_more inside r rs i) ∙ e))

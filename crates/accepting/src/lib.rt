@@ -1,4 +1,6 @@
 // Accepting: whether bytes are a lookup, word by word. Each function takes a part of a lookup from a place on, and says where it ends, or which word cannot stand.
+#![tactic(auto)]
+
 ghost use Rattle.std.specs.Prelude.{◌+◌, ◌-◌, ◌*◌, ◌/◌, ◌<◌, ◌≤◌, length};
 ghost use Rattle.words.specs.Words.{word_at, words_at};
 ghost use Rattle.scanning.specs.Scans.{several, rise};
@@ -6,7 +8,7 @@ ghost use Rattle.scanning.specs.Grammar.{headed, counted, covered};
 ghost use Rattle.accepting.specs.Scanned.{Took, these, Counts};
 
 // What comes of scanning a part: where it ends; where a word is that cannot stand; that the bytes end too soon.
-#[derive(Drop)]
+#[derive(Clone, Copy)]
 pub enum Scanned {
     At(usize),
     Wrong(usize),

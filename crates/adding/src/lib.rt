@@ -1,4 +1,6 @@
 // Adding: the lookup of a list of rows, added to a draft. Rows are made rules, each one number; these are put into order and laid out as the columns that a writer takes.
+#![tactic(auto)]
+
 ghost use Rattle.std.specs.Prelude.{◌≡◌, [], ◌∷◌, map, ◌*◌, ◌≤◌, length};
 ghost use Rattle.layouts.specs.Lookups.{listed};
 ghost use Rattle.fonts.specs.Font.{font_now, font_lent, Sound};

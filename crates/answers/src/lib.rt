@@ -1,4 +1,6 @@
 // What `joinline` prints of a text that was read: the text is joined as one line, and the answer is written to lent memory.
+#![tactic(auto)]
+
 ghost use Rattle.std.specs.Prelude.{◌≡◌, List, ℕ, ◌≤◌, min, length};
 ghost use Rattle.texts.specs.Form.{Close, whole, columns_lent};
 ghost use Rattle.printing.specs.Writing.{Wrote, filled};

@@ -1,4 +1,6 @@
 // Blocks: a block of marks is brought forward in a part, codes and classes at once. Linear: three turns, and no record moves one place at a time.
+#![tactic(auto)]
+
 ghost use Rattle.std.specs.Prelude.{◌≡◌, ◌++◌, reverse, ◌≤◌, length, take, drop};
 ghost use Rattle.blocks.specs.Marks.{marks, brought};
 

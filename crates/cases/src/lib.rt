@@ -1,5 +1,7 @@
 // A case's columns, as a program uses them: compared at the cursor with what a call gave, or read as one number. They are
 // taken by the crate `columns`; bytes are compared by the kit's own function.
+#![tactic(auto)]
+
 ghost use Rattle.std.specs.Prelude.{◌≡◌, map, get_or};
 ghost use Rattle.std.specs.Int.{w32};
 ghost use Rattle.std.proofs.Common.{of_z};

@@ -1,5 +1,7 @@
 // Coded: the public calls on a line that is held by codes and categories alone. No type is lent: each is looked up in Unicode's rows, into a room
 // of the call's own, and then the call that is lent types is made.
+#![tactic(auto)]
+
 ghost use Rattle.std.specs.Prelude.{◌≡◌, map, ◌≤◌, length};
 ghost use Rattle.laws.specs.Rows.{first};
 ghost use Rattle.refusals.specs.Numbers.{said};
@@ -16,7 +18,7 @@ use replacing::Request;
 const SHORT: usize = 64;
 
 // What is asked for: a place, and the letter that comes to stand there.
-#[derive(Drop)]
+#[derive(Clone, Copy)]
 pub struct CodeRequest {
     pub place: usize,
     pub code: Code,

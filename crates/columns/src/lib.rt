@@ -4,13 +4,15 @@
 // there on every column is empty, so that a caller looks at the cursor once, at the end. Bytes are copied by the kit's own function;
 // wider elements are put together here, one loop for each width, and one law over the width behind them. A column of signed numbers
 // has their bits.
+#![tactic(auto)]
+
 ghost use Rattle.std.specs.Prelude.{◌≡◌, map, ◌+◌, ◌-◌, ◌<◌, length, get_or};
 ghost use Rattle.std.specs.Int.{w32};
 ghost use Rattle.std.proofs.Common.{to_z, of_z};
 ghost use Rattle.columns.specs.Form.{number_at, span_at, Took, column_at};
 
 // Where the elements of a column lie, how many they are, and where the next column starts.
-#[derive(Drop)]
+#[derive(Clone, Copy)]
 pub struct Span {
     pub from: usize,
     pub count: usize,

@@ -1,4 +1,6 @@
 // Copying: records of a line, copied to lent columns.
+#![tactic(auto)]
+
 ghost use Rattle.std.specs.Prelude.{◌≡◌, ◌+◌, ◌≤◌, length};
 ghost use Rattle.std.proofs.Math.Seq.{slice};
 ghost use Rattle.runs.specs.Records.{columns_now, columns_lent};

@@ -1,4 +1,6 @@
 // Drafts: a plan while it is made. Lookups are written one behind the other into memory that no customer lent, so that nothing is written there before it is known that all of them go in.
+#![tactic(auto)]
+
 ghost use Rattle.std.specs.Prelude.{◌≡◌, [], ◌∷◌, cond, ◌+◌, ◌<◌, eqb};
 ghost use Rattle.layouts.specs.Lookups.{lookup_lent};
 ghost use Rattle.layouts.specs.Written.{Writing};
@@ -11,7 +13,7 @@ use layouts::{Kind, Written};
 pub const IGNORE_MARKS: u16 = 8;
 
 // The entries so far: their masks, how many bytes each lookup has, and where the bytes of the last end.
-#[derive(Drop)]
+#[derive(Clone, Copy)]
 pub struct Draft {
     pub count: usize,
     pub end: usize,

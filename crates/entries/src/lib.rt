@@ -1,12 +1,14 @@
 // A line of `joinline`'s text form, read byte by byte: the state after each byte, and what the line says at its end.
 //
 // `start`, then `within` for each byte, then `said`. The state is a few numbers, so that a line of any length is read without being held.
+#![tactic(auto)]
+
 ghost use Rattle.std.specs.Prelude.{◌≡◌, List, ℕ, min};
 ghost use Rattle.entries.specs.Form.{digit as digit_of, fields, line_of};
 ghost use Rattle.entries.specs.Steps.{base as base_of, most as most_of, start as start_of, follows as follows_on, typed as typed_of, parted as parted_of, within as within_of, read_in, said_by};
 
 // What a line says: the code and with how many digits it was typed, the type, the category.
-#[derive(Drop)]
+#[derive(Clone, Copy)]
 pub struct Entry {
     pub code: u32,
     pub width: u8,
@@ -15,14 +17,14 @@ pub struct Entry {
 }
 
 // A line says an entry, or is of other form.
-#[derive(Drop)]
+#[derive(Clone, Copy)]
 pub enum Line {
     Other,
     Says(Entry),
 }
 
 // What was read of a text so far.
-#[derive(Drop)]
+#[derive(Clone, Copy)]
 pub struct State {
     // of the line at hand: 0 code, 1 type, 2 category; 3: a line of the text is of other form
     pub field: u8,

@@ -1,4 +1,6 @@
 // Fallback: the public call that makes a plan of lookups for a font that has none of its own, and the one that says whether there is to be one.
+#![tactic(auto)]
+
 ghost use Rattle.std.specs.Prelude.{◌≡◌, [], ◌*◌, ◌≤◌, length};
 ghost use Rattle.laws.specs.Rows.{first};
 ghost use Rattle.refusals.specs.Numbers.{said};
@@ -23,7 +25,7 @@ const LONGEST_PLAN: usize = 61566;
 const NO_FLAGS: u16 = 0;
 
 // A plan: its entries, each a mask and how many bytes its lookup has; or why there is none, with zeros.
-#[derive(Drop)]
+#[derive(Clone, Copy)]
 pub struct FallbackPlan {
     pub verdict: Verdict,
     pub count: usize,
@@ -290,7 +292,7 @@ fn plan_in(
 }
 
 // Which features of the Arabic script a font leaves to the fallback.
-#[derive(Drop)]
+#[derive(Clone, Copy)]
 pub struct Needs {
     pub isol: bool,
     pub fina: bool,

@@ -1,4 +1,6 @@
 // Filling: the rules of a ligature lookup put into two columns, components and ligatures.
+#![tactic(auto)]
+
 ghost use Rattle.std.specs.Prelude.{◌≡◌, ◌+◌, ◌*◌, ◌<◌, ◌≤◌, length};
 ghost use Rattle.laws.specs.Lists.{pasted};
 ghost use Rattle.layouts.specs.Lookups.{flat};

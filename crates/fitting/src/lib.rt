@@ -1,4 +1,6 @@
 // Fitting: sums that stop at the ends of 32 bits, and how the repeating tiles of a run fill the room of a word.
+#![tactic(auto)]
+
 ghost use Rattle.std.specs.Prelude.{◌≡◌, ◌≤◌};
 ghost use Rattle.refusals.specs.Columns.{line_limit};
 ghost use Rattle.fitting.specs.Saturating.{clamped, sat_add_lem, sat_sub_lem};
@@ -40,7 +42,7 @@ fn count_of(x: i32) -> usize
 }
 
 // How tiles fill a room: how often each is copied, by how much each copy overlaps, and where the offsets start.
-#[derive(Drop)]
+#[derive(Clone, Copy)]
 pub struct Fit {
     pub copies: usize,
     pub overlap: i32,

@@ -1,11 +1,13 @@
 // Fonts: the map from code points to glyphs that a font lends, searched by powers of two.
+#![tactic(auto)]
+
 ghost use Rattle.std.specs.Prelude.{◌≡◌, cond, ltb, length};
 ghost use Rattle.fonts.specs.Font.{font_now, font_lent, Sound, Span, glyph_of, number_found, Usable};
 
 use letters::{Code, Glyph};
 
 // The glyph of a code, if the font has one.
-#[derive(Drop)]
+#[derive(Clone, Copy)]
 pub enum Found {
     At(Glyph),
     Absent,

@@ -1,4 +1,6 @@
 // Grouping: the sets of a ligature lookup, word by word: where they begin, and their rules. Bounds such as 1,048,576 only say that no sum overflows: they are met with much to spare.
+#![tactic(auto)]
+
 ghost use Rattle.std.specs.Prelude.{◌≡◌, ◌+◌, ◌*◌, ◌<◌, ◌≤◌, length};
 ghost use Rattle.words.specs.Words.{words_at};
 ghost use Rattle.layouts.specs.Tables.{evenly};

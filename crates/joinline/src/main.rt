@@ -2,6 +2,8 @@
 //
 // The text is read in pieces and its entries are held in columns of 512; what is longer is found out without being held. What is printed of a text is
 // stated by crate `answers`; here stand only reading and printing.
+#![tactic(auto)]
+
 use entries::State;
 use libc::{STDIN_FILENO, STDOUT_FILENO};
 

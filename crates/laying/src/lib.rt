@@ -1,4 +1,6 @@
 // Laying: records of a line copied to where they come in the lent output.
+#![tactic(auto)]
+
 ghost use Rattle.runs.specs.Records.{columns_now, columns_lent};
 ghost use Rattle.laying.specs.Laid.{Keepable, PartKept};
 

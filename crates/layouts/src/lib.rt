@@ -1,18 +1,20 @@
 // Layouts: what kinds of lookup there are, and what writing one answers. The definitions of a lookup's bytes are in specs/.
+#![tactic(auto)]
+
 ghost use Rattle.std.specs.Prelude.{◌≡◌};
 ghost use Rattle.layouts.specs.Written.{write_number, length_said};
 
 use refusals::Refusal;
 
 // Whether a lookup is single, or ligature with its component number.
-#[derive(Drop)]
+#[derive(Clone, Copy)]
 pub enum Kind {
     Single,
     Ligature(u8),
 }
 
 // What a writer answers: how many bytes it wrote.
-#[derive(Drop)]
+#[derive(Clone, Copy)]
 pub enum Written {
     Bytes(usize),
     Refused(Refusal),

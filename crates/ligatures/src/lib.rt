@@ -1,4 +1,6 @@
 // Ligatures: the public call that writes a ligature lookup. One walk over the rules finds what decides whether it fits; a second writes its sets.
+#![tactic(auto)]
+
 ghost use Rattle.std.specs.Prelude.{◌≡◌, true, [], ◌+◌, ◌-◌, ◌*◌, ◌<◌, ◌≤◌, max, eqb, length, take, drop};
 ghost use Rattle.words.specs.Words.{Wrote};
 ghost use Rattle.layouts.specs.declared.Kind.TheVariants.{Ligature};
@@ -54,7 +56,7 @@ fn greater(a: usize, b: usize) -> usize
 }
 
 // What decides whether a lookup fits: how many sets it has, how many rules the longest has, with which rule the last begins.
-#[derive(Drop)]
+#[derive(Clone, Copy)]
 struct Extent {
     sets: usize,
     longest: usize,

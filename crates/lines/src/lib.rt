@@ -1,4 +1,6 @@
 // Lines: the public call that joins a line.
+#![tactic(auto)]
+
 ghost use Rattle.std.specs.Prelude.{◌≡◌, cond, length};
 ghost use Rattle.laws.specs.Rows.{first};
 ghost use Rattle.refusals.specs.Numbers.{said};
@@ -13,14 +15,14 @@ use refusals::{Refusal, Verdict};
 const CONTEXT_LIMIT: usize = 64;
 
 // How a line is joined, apart from its letters: the seven feature masks, and whether it is Mongolian.
-#[derive(Drop)]
+#[derive(Clone, Copy)]
 pub struct Manner {
     pub features: [u32; 7],
     pub mongolian: bool,
 }
 
 // What a setting comes to: the types of the letters next to a line on both sides, the seven feature masks, whether it is Mongolian.
-#[derive(Drop)]
+#[derive(Clone, Copy)]
 pub struct Frame {
     pub before: u8,
     pub behind: u8,

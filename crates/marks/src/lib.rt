@@ -1,4 +1,6 @@
 // Marks: the public call that reorders modifier marks (UTR 53) in a part of a line.
+#![tactic(auto)]
+
 ghost use Rattle.std.specs.Prelude.{◌≡◌, [], ◌∷◌, ◌++◌, ◌+◌, ◌<◌, ◌≤◌, length, take, drop};
 ghost use Rattle.laws.specs.Lists.{front, behind};
 ghost use Rattle.laws.specs.Rows.{first};
@@ -13,14 +15,14 @@ use letters::Code;
 use refusals::{Refusal, Verdict};
 
 // A range of places, to the one before `to`.
-#[derive(Drop)]
+#[derive(Clone, Copy)]
 pub struct Range {
     pub from: usize,
     pub to: usize,
 }
 
 // The ranges that belong to one cluster now, in their order.
-#[derive(Drop)]
+#[derive(Clone, Copy)]
 pub enum Merged {
     Nothing,
     One(Range),
@@ -28,7 +30,7 @@ pub enum Merged {
 }
 
 // What the call answers.
-#[derive(Drop)]
+#[derive(Clone, Copy)]
 pub enum Answer {
     Reordered(Merged),
     Refused(Refusal),

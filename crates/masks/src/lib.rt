@@ -1,4 +1,6 @@
 // Masks of a joined line: each the base mask OR the feature mask of the action.
+#![tactic(auto)]
+
 ghost use Rattle.std.specs.Prelude.{◌≡◌, length};
 ghost use Rattle.masks.specs.Masks.{mask};
 ghost use Rattle.masks.specs.Masks.{masks as masks_of};

@@ -1,4 +1,6 @@
 // Neighbours: the nearest letters on both sides of a place that are not transparent, found by walking outward from it.
+#![tactic(auto)]
+
 ghost use Rattle.std.specs.Prelude.{◌≤◌, length};
 ghost use Rattle.joining.specs.Joinable.{Joinable, types_lent};
 ghost use Rattle.neighbours.specs.Beside.{StandsBefore, StandsFrom};
@@ -6,7 +8,7 @@ ghost use Rattle.neighbours.specs.Beside.{StandsBefore, StandsFrom};
 use letters::JoiningType;
 
 // A letter of the line and where it stands; past the line there is none, and its type is that of the letter next to the line.
-#[derive(Drop)]
+#[derive(Clone, Copy)]
 pub struct Neighbour {
     pub place: usize,
     pub letter: u8,

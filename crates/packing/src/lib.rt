@@ -1,4 +1,6 @@
 // Packing: rules that are one number each, laid out in the columns of a lookup.
+#![tactic(auto)]
+
 ghost use Rattle.std.specs.Prelude.{◌≡◌, ◌++◌, map, ◌+◌, ◌*◌, ◌≤◌, length, drop};
 ghost use Rattle.laws.specs.Lists.{pasted};
 ghost use Rattle.layouts.specs.Lookups.{flat};

@@ -1,4 +1,6 @@
 // Placing: the tiles of a run and their copies, laid into the lent output one after the other.
+#![tactic(auto)]
+
 ghost use Rattle.std.specs.Prelude.{◌≡◌, cond, ◌+◌, ◌≤◌, eqb};
 ghost use Rattle.letters.specs.Actions.{repeating};
 ghost use Rattle.runs.specs.Records.{columns_now, columns_lent};

@@ -1,6 +1,8 @@
 // What `joinline` prints, written to lent memory: the heading and a row for each letter of a joined line, or why there is none.
 //
 // Bytes that do not fit are left out. What is printed of a text always fits 8,208 bytes (crate `answers`, FitLaws).
+#![tactic(auto)]
+
 ghost use Rattle.std.specs.Prelude.{◌≡◌, ◌<◌, ◌≤◌};
 ghost use Rattle.printing.specs.Printed.{glyph as glyph_of, numeral as numeral_of, places as places_of, name_of, name_from_lem, row as row_of, rows as rows_of, heading as heading_of, printed, unreadable_text, refused_word_lem, refused_text};
 ghost use Rattle.printing.specs.Writing.{Wrote, wrote, writes, filled};

@@ -1,4 +1,6 @@
 // Reading: the public call that reads a lookup back into lent columns.
+#![tactic(auto)]
+
 ghost use Rattle.std.specs.Prelude.{◌≡◌, ◌≤◌};
 ghost use Rattle.layouts.specs.declared.Kind.TheVariants.{Single, Ligature};
 ghost use Rattle.recognizing.specs.Recognized.{Held};
@@ -9,7 +11,7 @@ use recognizing::Recognized;
 use refusals::Refusal;
 
 // A lookup as read: its flags, how many rules it has, and whether it is single, or ligature with its component number.
-#[derive(Drop)]
+#[derive(Clone, Copy)]
 pub struct Lookup {
     pub flags: u16,
     pub len: usize,
@@ -17,7 +19,7 @@ pub struct Lookup {
 }
 
 // What the call answers.
-#[derive(Drop)]
+#[derive(Clone, Copy)]
 pub enum Answer {
     Read(Lookup),
     Refused(Refusal),

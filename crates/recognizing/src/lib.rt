@@ -1,4 +1,6 @@
 // Recognizing: whether bytes are a lookup, and of which kind.
+#![tactic(auto)]
+
 ghost use Rattle.std.specs.Prelude.{◌≡◌, ◌<◌, ◌≤◌};
 ghost use Rattle.words.specs.Words.{word_at};
 ghost use Rattle.accepting.specs.Scanned.{Took, Counts};
@@ -8,7 +10,7 @@ use accepting::Scanned;
 use layouts::Kind;
 
 // What bytes are: no lookup, or one of a kind.
-#[derive(Drop)]
+#[derive(Clone, Copy)]
 pub enum Recognized {
     Nothing,
     As(Kind),

@@ -1,4 +1,6 @@
 // Recording: the public call that records which records `stch` has multiplied, and whether each is repeated or not when the line is stretched.
+#![tactic(auto)]
+
 ghost use Rattle.std.specs.Prelude.{◌≡◌, length};
 ghost use Rattle.laws.specs.Rows.{first};
 ghost use Rattle.refusals.specs.Numbers.{said};
@@ -8,7 +10,7 @@ use letters::Action;
 use refusals::{Refusal, Verdict};
 
 // What the call answers: whether any record was recorded.
-#[derive(Drop)]
+#[derive(Clone, Copy)]
 pub enum Answer {
     Recorded(bool),
     Refused(Refusal),

@@ -1,5 +1,7 @@
 // Renewing: the records that a new letter touches get what fresh joining gives, by walks outward from its place to the second letter on each side,
 // and over the runs of selectors there.
+#![tactic(auto)]
+
 ghost use Rattle.std.specs.Prelude.{◌≡◌, cond, ◌+◌, ◌<◌, ◌≤◌, ltb, length, get_or, take, drop};
 ghost use Rattle.shapes.specs.Joining.{passed, latest, nearest, line_types};
 ghost use Rattle.selectors.specs.Selectors.{run, base as base_of};

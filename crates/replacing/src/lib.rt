@@ -1,4 +1,6 @@
 // Replacing: the public call that replaces a letter of a held line. Beyond its tests it costs what stands around the place.
+#![tactic(auto)]
+
 ghost use Rattle.std.specs.Prelude.{◌≡◌, false, []};
 ghost use Rattle.laws.specs.Rows.{first};
 ghost use Rattle.refusals.specs.Numbers.{said};
@@ -11,7 +13,7 @@ use lines::{Frame, Manner};
 use refusals::{Refusal, Verdict};
 
 // What is asked for: a place, and the letter that comes to stand there.
-#[derive(Drop)]
+#[derive(Clone, Copy)]
 pub struct Request {
     pub place: usize,
     pub code: Code,

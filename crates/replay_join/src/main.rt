@@ -1,5 +1,7 @@
 // Replays cases of joined lines. Go in: mongolian u8; features u32 x7; pre types u8, pre categories u8; post types, post categories;
 // codes u32, types u8, categories u8, base masks u32; actions u8 and masks u32 before the call. Come out: number u8; actions, masks.
+#![tactic(auto)]
+
 use lines::Manner;
 use replays::Case;
 use tallies::Outcome;

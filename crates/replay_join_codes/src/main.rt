@@ -1,5 +1,7 @@
 // Replays cases of lines joined by codes. Go in: mongolian u8; features u32 x7; pre codes u32, pre categories u8; post codes, post categories;
 // codes u32, categories u8, base masks u32; actions u8 and masks u32 before the call. Come out: number u8; actions, masks.
+#![tactic(auto)]
+
 use lines::Manner;
 use replays::Case;
 use tallies::Outcome;

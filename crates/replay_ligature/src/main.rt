@@ -1,5 +1,7 @@
 // Replays cases of written ligature lookups. Go in: number of components u8; flags u16; components u16, those of one rule behind those of the
 // other, ligatures u16; area u8 before the call. Come out: number u8; length u32; area.
+#![tactic(auto)]
+
 use replays::Case;
 use tallies::Outcome;
 

@@ -1,5 +1,7 @@
 // Replays cases of reordered marks. Go in: codes u32, classes u8; start u32, end u32; the two lent class numbers u8 x2. Come out: number u8; ranges
 // u32, start and end of each; codes, classes.
+#![tactic(auto)]
+
 use marks::Merged;
 use replays::Case;
 use tallies::Outcome;

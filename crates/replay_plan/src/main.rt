@@ -1,6 +1,8 @@
 // Replays cases of the fallback plan. Go in: masks u32 x5 (init, medi, fina, isol, rlig); font codes u32, font glyphs u32; shaping codes u16, forms
 // u16 (four a row: init, medi, fina, isol); components u16, those of one row behind those of the other, and ligatures u16 of the lists of 3, of 2
 // and of 2 components; area u8 before the call. Come out: number u8; count u8; masks u32 x7, lengths u32 x7; area.
+#![tactic(auto)]
+
 use fallback::FallbackPlan;
 use replays::Case;
 use tallies::Outcome;

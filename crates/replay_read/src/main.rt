@@ -1,12 +1,14 @@
 // Replays cases of lookups that are read back. Go in: bytes u8; glyphs u16 (or flat components) and substitutes u16 (or ligatures) before the
 // call. Come out: number u8; kind u8 (0 refused, 1 single, 4 ligature); number of components u8 (0 unless ligature); flags u16; length u32
 // (rules); glyphs, substitutes.
+#![tactic(auto)]
+
 use reading::{Answer, Lookup};
 use replays::Case;
 use tallies::Outcome;
 
 // A lookup as a case has it: OpenType's number of its kind, its number of components, its flags, and how many rules it has.
-#[derive(Drop)]
+#[derive(Clone, Copy)]
 struct Report {
     kind: u8,
     components: u8,

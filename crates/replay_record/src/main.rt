@@ -1,5 +1,7 @@
 // Replays cases of recording for stretching. Go in: stch mask u32; multiplied u8, components u8; actions u8 before the call. Come out: number u8;
 // recorded u8; actions.
+#![tactic(auto)]
+
 use replays::Case;
 use tallies::Outcome;
 

@@ -1,6 +1,8 @@
 // Replays cases of refusals: two lengths and a limit u32 x3, a column u8, its bound u8, codes u32 go in; the numbers u8 x5 of
 // four verdicts (lengths that differ, one above the limit, a column above its bound, codes that do not rise) and of the smallest among
 // them come out. They are made as the calls make theirs.
+#![tactic(auto)]
+
 use refusals::Refusal;
 use replays::Case;
 use tallies::Outcome;

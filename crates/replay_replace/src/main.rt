@@ -1,6 +1,8 @@
 // Replays cases of replaced letters. Go in: mongolian u8; features u32 x7; pre types u8, pre categories u8; post types, post categories;
 // codes u32, types u8, categories u8, base masks u32; actions u8 and masks u32 before the call; place u32, code u32, type u8, category u8.
 // Come out: number u8; codes, types, categories, actions, masks.
+#![tactic(auto)]
+
 use letters::{Category, Code, JoiningType};
 use lines::Manner;
 use replacing::Request;

@@ -1,6 +1,8 @@
 // Replays cases of letters replaced by codes. Go in: mongolian u8; features u32 x7; pre codes u32, pre categories u8; post codes, post
 // categories; codes u32, categories u8, base masks u32; actions u8 and masks u32 before the call; place u32, code u32, category u8.
 // Come out: number u8; codes, categories, actions, masks.
+#![tactic(auto)]
+
 use coded::CodeRequest;
 use letters::{Category, Code};
 use lines::Manner;

@@ -1,5 +1,7 @@
 // Replays cases of written single lookups. Go in: flags u16; glyphs u16, substitutes u16; area u8 before the call. Come out: number u8;
 // length u32; area.
+#![tactic(auto)]
+
 use replays::Case;
 use tallies::Outcome;
 

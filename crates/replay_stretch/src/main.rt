@@ -1,6 +1,8 @@
 // Replays cases of stretched lines. Go in: recorded u8; right to left u8; glyphs u32, widths i32, categories u8, ignorables u8, actions u8,
 // advances i32, offsets i32; the seven output columns before the call, in the same order. Come out: number u8; length u32; the seven
 // output columns.
+#![tactic(auto)]
+
 use replays::Case;
 use tallies::Outcome;
 

@@ -1,4 +1,6 @@
 // Replays cases of the switch of the fallback. Go in: arabic u8; needs u8 x4 (isol, fina, medi, init). Comes out: fallback u8.
+#![tactic(auto)]
+
 use fallback::Needs;
 use replays::Case;
 use tallies::Outcome;

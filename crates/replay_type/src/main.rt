@@ -1,4 +1,6 @@
 // Replays cases of joining types: codes u32 go in, their types u8 come out.
+#![tactic(auto)]
+
 use letters::Code;
 use replays::Case;
 use tallies::Outcome;

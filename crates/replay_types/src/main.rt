@@ -1,4 +1,6 @@
 // Replays cases of resolved types: types u8 and categories u8 go in, the resolved types u8 come out.
+#![tactic(auto)]
+
 ghost use Rattle.std.specs.Prelude.{◌≤◌};
 
 use letters::{Category, JoiningType};

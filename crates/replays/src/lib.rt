@@ -2,6 +2,8 @@
 //
 // A program reads a case to lent room by `next`, takes its body apart by the crates `columns` and `cases`, makes the call, and says by
 // `tallies::judged` what the case comes to. Its `main` is a loop of `tallies::goes_on` and `tell`, and `finish` behind it.
+#![tactic(auto)]
+
 ghost use Rattle.std.specs.Prelude.{◌≡◌, true, length, take};
 ghost use Rattle.replays.specs.Reading.{within, stopped};
 ghost use Rattle.tallies.specs.Counting.{counted};
@@ -10,7 +12,7 @@ use libc::{STDIN_FILENO, STDOUT_FILENO};
 use tallies::{Outcome, Tally};
 
 // A case: the bytes of its body, or the end of the input, or bytes that are no case.
-#[derive(Drop)]
+#[derive(Clone, Copy)]
 pub enum Case {
     Body(usize),
     End,

@@ -1,4 +1,6 @@
 // Runs: the definition of the stretched line; a run and the word before it, measured.
+#![tactic(auto)]
+
 ghost use Rattle.std.specs.Prelude.{◌≡◌, true, ◌+◌, ◌<◌, ◌≤◌, length, get_or, pos};
 ghost use Rattle.laws.specs.Lists.{member};
 ghost use Rattle.refusals.specs.Columns.{line_limit, at_most};
@@ -10,7 +12,7 @@ ghost use Rattle.runs.specs.Measured.{measures_now, measures_lent, Even, NextRun
 use letters::{Action, Category, Glyph};
 
 // What a copy of a record keeps.
-#[derive(Drop)]
+#[derive(Clone, Copy)]
 pub struct Tile {
     pub glyph: Glyph,
     pub width: i32,
@@ -20,7 +22,7 @@ pub struct Tile {
 }
 
 // What a run comes to: the widths of its fixed tiles and of its repeating ones, how many of these it has, and the place past it.
-#[derive(Drop)]
+#[derive(Clone, Copy)]
 pub struct Sums {
     pub fixed: i32,
     pub repeating: i32,
@@ -29,7 +31,7 @@ pub struct Sums {
 }
 
 // A run with the word before it: the place past it, its repeating tiles, how often each is copied, by how much each copy overlaps, and where the offsets start.
-#[derive(Drop)]
+#[derive(Clone, Copy)]
 pub struct Measured {
     pub past: usize,
     pub tiles: usize,

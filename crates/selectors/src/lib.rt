@@ -1,4 +1,6 @@
 // Mongolian variation selectors: each takes the action of the record before it.
+#![tactic(auto)]
+
 ghost use Rattle.std.specs.Prelude.{◌≡◌, ◌+◌, ◌<◌, ◌≤◌, length, drop};
 ghost use Rattle.selectors.specs.Selectors.{selector, settled, run, base};
 

@@ -1,4 +1,6 @@
 // Singles: the public call that writes a single lookup.
+#![tactic(auto)]
+
 ghost use Rattle.layouts.specs.declared.Kind.TheVariants.{Single};
 ghost use Rattle.layouts.specs.Lookups.{lookup_lent};
 ghost use Rattle.layouts.specs.Written.{Writing};

@@ -1,4 +1,6 @@
 // Stretching: the public call that stretches the recorded runs of a line.
+#![tactic(auto)]
+
 ghost use Rattle.std.specs.Prelude.{◌≡◌, true, ◌≤◌, length};
 ghost use Rattle.refusals.specs.Columns.{line_limit, at_most};
 ghost use Rattle.letters.specs.Actions.{repeating};
@@ -13,7 +15,7 @@ use refusals::Refusal;
 const STRETCHED_LIMIT: usize = 16384;
 
 // What the call answers: how many records the stretched line has.
-#[derive(Drop)]
+#[derive(Clone, Copy)]
 pub enum Answer {
     Stretched(usize),
     Refused(Refusal),

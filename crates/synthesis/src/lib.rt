@@ -1,4 +1,6 @@
 // Synthesis: rows of codes made the rules of a lookup in a font, in order, as the columns that a writer takes.
+#![tactic(auto)]
+
 ghost use Rattle.std.specs.Prelude.{◌≡◌, ◌+◌, ◌*◌, ◌≤◌, ◌<◌, length};
 ghost use Rattle.laws.specs.Lists.{pasted};
 ghost use Rattle.layouts.specs.declared.Kind.TheVariants.{Single, Ligature};
@@ -10,7 +12,7 @@ use fonts::Found;
 use letters::Code;
 
 // What a row gives: a rule as one number, or none.
-#[derive(Drop)]
+#[derive(Clone, Copy)]
 pub enum Row {
     Rule(u64),
     Dropped,

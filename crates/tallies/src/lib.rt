@@ -1,11 +1,13 @@
 // What cases come to, and how they are counted.
 //
 // A program's `main` is a loop of `goes_on` and `counted` (by `replays::tell`): it ends, since the tally grows with each case.
+#![tactic(auto)]
+
 ghost use Rattle.std.specs.Prelude.{◌≡◌};
 ghost use Rattle.tallies.specs.Counting.{judged, is_case_lem, is_off_lem, up, counted, goes_on_lem};
 
 // What a case comes to: it is as it must be, or not; or the input ends; or there is no such case.
-#[derive(Drop)]
+#[derive(Clone, Copy)]
 pub enum Outcome {
     Same,
     Differs,
@@ -14,7 +16,7 @@ pub enum Outcome {
 }
 
 // How many cases there were, and how many of them differ.
-#[derive(Drop)]
+#[derive(Clone, Copy)]
 pub struct Tally {
     pub cases: u64,
     pub differ: u64,

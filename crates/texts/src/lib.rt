@@ -2,6 +2,8 @@
 //
 // `begin`, then `read_on` for each piece as it comes, then `close`. The state is a few numbers, so that a text of any length is read
 // without being held: entries past the end of a column are counted and not stored.
+#![tactic(auto)]
+
 ghost use Rattle.std.specs.Prelude.{◌≡◌, List, ℕ, set};
 ghost use Rattle.entries.specs.Steps.{start as start_of};
 ghost use Rattle.texts.specs.Form.{Close, whole, columns_lent};
@@ -10,7 +12,7 @@ ghost use Rattle.texts.specs.Steps.{up as up_of, Hold, ended, stepped, read_on, 
 use entries::{Line, State};
 
 // What a whole text comes to: a line is of other form, or all are read and there are so many.
-#[derive(Drop)]
+#[derive(Clone, Copy)]
 pub enum Told {
     Unreadable,
     Lines(usize),

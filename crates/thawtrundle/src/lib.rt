@@ -2,6 +2,8 @@
 //
 // A wrapper does nothing but hand on. It takes a yes-or-no as a byte, 0 for no, since C may hand over any; it gives the number of refusal, 0 for
 // an accepted call, and all else that is answered through numbers lent for that, zeros with a refusal. Its statement is the call's own equation.
+#![tactic(auto)]
+
 ghost use Rattle.std.specs.Prelude.{◌≡◌};
 ghost use Rattle.refusals.specs.Columns.{yes};
 ghost use Rattle.refusals.specs.Left.{After};

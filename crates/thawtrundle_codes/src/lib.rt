@@ -3,6 +3,8 @@
 // They are an archive of their own, beside crate thawtrundle's: in one archive `join_line` and `replace_letter` would have two callers each, the compiler
 // would no longer lay them out inside `tt_join_line` and `tt_replace_letter`, and these would cost some 60 to 80 instructions more a call.
 // As there, a wrapper does nothing but hand on.
+#![tactic(auto)]
+
 ghost use Rattle.std.specs.Prelude.{◌≡◌};
 ghost use Rattle.refusals.specs.Left.{After};
 ghost use Rattle.listed.specs.Rows.{type_in};

@@ -1,4 +1,6 @@
 // Windows: the plan for fonts that encode Arabic by Windows-1256, from tables.
+#![tactic(auto)]
+
 ghost use Rattle.std.specs.Prelude.{◌≡◌, cond, ◌<◌, ◌≤◌, eqb, length};
 ghost use Rattle.fonts.specs.Font.{font_now, font_lent, Sound, Span, glyph_of};
 ghost use Rattle.drafts.specs.Entries.{longest_direct};

@@ -1,4 +1,6 @@
 // Words: big-endian 16-bit numbers in lent bytes.
+#![tactic(auto)]
+
 ghost use Rattle.std.specs.Prelude.{◌≡◌, ◌∷◌, [], ◌++◌, ◌+◌, ◌*◌, ◌≤◌, length, take, drop};
 ghost use Rattle.words.specs.Words.{word_at, words_at, Wrote};
 

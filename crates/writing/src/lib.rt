@@ -1,4 +1,6 @@
 // Writing: the stretched line, laid into the lent output.
+#![tactic(auto)]
+
 ghost use Rattle.runs.specs.Records.{columns_now, columns_lent};
 ghost use Rattle.writing.specs.Whole.{Writable, LineWritten};
 

@@ -1,0 +1,21 @@
+-- `refusals::rising` meets its contract: what the test says of the column is what the flag and the rest of it say.
+-- Assumes nothing.
+use mathlib.Core.Path.{◌≡◌, ap, ◌∙◌}
+use mathlib.Core.Bool.{Bool, cond, not, ◌&&◌}
+use Prim.Native.Nat.{◌-◌, ◌≤◌}
+use borrow.Author.Rules.{rules}
+use lib.ListN.{length, drop}
+use Rattle.laws.proofs.LoopLaws.{flag-next, flag-ends}
+use Rattle.refusals.specs.Columns.{rising}
+use Rattle.refusals.proofs.ColumnLaws.{strictly_turn, rising-ends}
+use Rattle.refusals.proofs.rising.Goals as goal
+
+pub loop-i-preserved : goal.loop-i-preserved
+loop-i-preserved c =
+    let l = c.loop-i in
+    (search rules, flag-next l.ok l.invariant.1 _ _ (strictly_turn _ _ c.loop-i-test.true))
+
+pub returns : goal.returns
+returns c =
+    let l = c.loop-i in
+    c.unless.ensures ∙ ap (λ (b : Bool). cond (not b) 3 0) (flag-ends l.ok l.invariant.1 (rising-ends 1 _ _ c.loop-i-test.false))

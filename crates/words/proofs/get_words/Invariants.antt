@@ -1,0 +1,15 @@
+use native.Mathlib.Omega.{arith}
+use mathlib.Core.Path.{◌≡◌, refl, sym, ap, ◌∙◌}
+use Prim.Native.Nat.{ℕ, ◌-◌, ◌≤◌}
+use lib.ListN.{length, length-set}
+use Rattle.laws.specs.Lists.{pasted}
+use Rattle.laws.proofs.PasteLaws.{paste_none}
+use Rattle.words.specs.Words.{words_at}
+use Rattle.words.proofs.WordLaws.{length-words, paste_front, fill_last}
+use Rattle.words.proofs.get_words.Given as goal
+
+abbrev pub invariant-loop-i : goal.invariant-loop-i
+invariant-loop-i l = (l.i ≤ l.n) × (length l.column ≡ length l.initial.column) × (pasted (words_at l.bytes l.at l.i) 0 l.column ≡ pasted (words_at l.bytes l.at l.n) 0 l.initial.column)
+
+abbrev pub decreases-loop-i : goal.decreases-loop-i
+decreases-loop-i l = l.i

@@ -1,0 +1,13 @@
+-- `words::put_u16` meets its contract.
+-- Assumes nothing.
+use borrow.Author.Rules.{rules}
+use native.Mathlib.Omega.{arith}
+use lib.ListN.{length-set}
+use Rattle.words.proofs.WroteLaws.{one_word}
+use Rattle.words.proofs.put_u16.Goals as goal
+
+pub bounds-area-at-2 : goal.bounds-area-at-2
+bounds-area-at-2 c = simp length-set (omega arith)
+
+pub returns : goal.returns
+returns c = one_word c.args.area.now c.args.at c.args.w c.requires

@@ -1,7 +1,7 @@
 // A case's body, taken apart: its columns, one after the other, by a cursor.
 //
 // A column that is not of the form, cut short or too long is taken as an empty one, and the cursor is then past every body: from
-// there on every column is empty, so that a caller looks at the cursor once, at the end. Bytes are copied by the kit's own function;
+// there on every column is empty, so that a caller looks at the cursor once, at the end. Bytes are copied by the library's own method;
 // wider elements are put together here, one loop for each width, and one law over the width behind them. A column of signed numbers
 // has their bits.
 #![tactic(auto)]
@@ -97,7 +97,10 @@ pub fn view_u8<'a>(body: &'a [u8], at: &mut usize, most: usize) -> &'a [u8]
 pub fn take_u8<'a>(body: &[u8], at: &mut usize, out: &'a mut [u8]) -> &'a mut [u8]
     ensures { Took result.now at.new ≡ column_at body.now 1 (length out.old) at.old }
 {
-    let n = bytes::copy(view_u8(body, at, out.len()), out);
+    let most = out.len();
+    let view = view_u8(body, at, most);
+    let n = view.len();
+    out[..n].copy_from_slice(view);
     &mut out[..n]
 }
 

@@ -1,0 +1,6 @@
+-- `cases::is_flag` meets its contract.
+-- Assumes nothing.
+use Rattle.cases.proofs.is_flag.Goals as goal
+
+pub returns : goal.returns
+returns c = rw c.first_u8.ensures

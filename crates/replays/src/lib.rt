@@ -8,8 +8,12 @@ ghost use Rattle.std.specs.Prelude.{◌≡◌, true, length, take};
 ghost use Rattle.replays.specs.Reading.{within, stopped};
 ghost use Rattle.tallies.specs.Counting.{counted};
 
-use libc::{STDIN_FILENO, STDOUT_FILENO};
 use tallies::{Outcome, Tally};
+
+// The file descriptors that a program starts with.
+const STDIN_FILENO: i32 = 0;
+
+const STDOUT_FILENO: i32 = 1;
 
 // A case: the bytes of its body, or the end of the input, or bytes that are no case.
 #[derive(Clone, Copy)]

@@ -53,7 +53,7 @@ member-transparent c = member-more Mn c (Me ∷ Cf ∷ []) (member-more Me c (Cf
 
 pub member-selector : (c : ℕ) → member c selectors ≡ selector c
 member-selector c =
-    member-more 0x180_b c (0x180_c ∷ 0x180_d ∷ 0x180_f ∷ []) (member-more 0x180_c c (0x180_d ∷ 0x180_f ∷ []) (member-more 0x180_d c (0x180_f ∷ []) (member-last 0x180_f c)))
+    member-more 0x180B c (0x180C ∷ 0x180D ∷ 0x180F ∷ []) (member-more 0x180C c (0x180D ∷ 0x180F ∷ []) (member-more 0x180D c (0x180F ∷ []) (member-last 0x180F c)))
 
 in_the_end_lem : (t c : ℕ) → in_the_end t c ≡ resolved t c
 in_the_end_lem t c = ap (λ (b : Bool). cond (eqb t X) (cond b T U) t) (member-transparent c)

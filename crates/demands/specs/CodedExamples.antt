@@ -42,8 +42,8 @@ coded_examples =
     JoinsCodes (between [] []) (coded_line_of (0x0628 ∷ 0x110000 ∷ 0x0628 ∷ []) (Lo ∷ Lo ∷ Lo ∷ []) (128 ∷ 128 ∷ 128 ∷ []) (none ∷ none ∷ none ∷ []) (0 ∷ 0 ∷ 0 ∷ [])) 0
     (coded_line_of (0x0628 ∷ 0x110000 ∷ 0x0628 ∷ []) (Lo ∷ Lo ∷ Lo ∷ []) (128 ∷ 128 ∷ 128 ∷ []) (isol ∷ none ∷ isol ∷ []) (129 ∷ 128 ∷ 129 ∷ [])) ∷
     -- 200C is listed as U, so it parts two letters as a Cf, too
-    JoinsCodes (between [] []) (coded_line_of (0x0628 ∷ 0x200_c ∷ 0x0628 ∷ []) (Lo ∷ Cf ∷ Lo ∷ []) (128 ∷ 128 ∷ 128 ∷ []) (none ∷ none ∷ none ∷ []) (0 ∷ 0 ∷ 0 ∷ [])) 0
-    (coded_line_of (0x0628 ∷ 0x200_c ∷ 0x0628 ∷ []) (Lo ∷ Cf ∷ Lo ∷ []) (128 ∷ 128 ∷ 128 ∷ []) (isol ∷ none ∷ isol ∷ []) (129 ∷ 128 ∷ 129 ∷ [])) ∷
+    JoinsCodes (between [] []) (coded_line_of (0x0628 ∷ 0x200C ∷ 0x0628 ∷ []) (Lo ∷ Cf ∷ Lo ∷ []) (128 ∷ 128 ∷ 128 ∷ []) (none ∷ none ∷ none ∷ []) (0 ∷ 0 ∷ 0 ∷ [])) 0
+    (coded_line_of (0x0628 ∷ 0x200C ∷ 0x0628 ∷ []) (Lo ∷ Cf ∷ Lo ∷ []) (128 ∷ 128 ∷ 128 ∷ []) (isol ∷ none ∷ isol ∷ []) (129 ∷ 128 ∷ 129 ∷ [])) ∷
     -- category 30 beside a listed code: 3
     JoinsCodes (between [] []) (coded_line_of (0x0628 ∷ []) (30 ∷ []) (128 ∷ []) (none ∷ []) (0 ∷ [])) 3
     (coded_line_of (0x0628 ∷ []) (30 ∷ []) (128 ∷ []) (none ∷ []) (0 ∷ [])) ∷

@@ -87,9 +87,9 @@ examples =
     -- codes 064E 0655 065F 0654, classes 30 220 220 230: 0655 0654 064E 065F; ranges 0 to 2, 1 to 4. The class numbers lent are 25 and 26
     Reorders
     (reorder_request 0 4 25 26)
-    (columns_of (0x064_e ∷ 0x0655 ∷ 0x065_f ∷ 0x0654 ∷ []) (30 ∷ 220 ∷ 220 ∷ 230 ∷ []))
+    (columns_of (0x064E ∷ 0x0655 ∷ 0x065F ∷ 0x0654 ∷ []) (30 ∷ 220 ∷ 220 ∷ 230 ∷ []))
     (Over 0 2 ∷ Over 1 4 ∷ [])
-    (columns_of (0x0655 ∷ 0x0654 ∷ 0x064_e ∷ 0x065_f ∷ []) (25 ∷ 26 ∷ 30 ∷ 220 ∷ [])) ∷
+    (columns_of (0x0655 ∷ 0x0654 ∷ 0x064E ∷ 0x065F ∷ []) (25 ∷ 26 ∷ 30 ∷ 220 ∷ [])) ∷
     -- right to left, Lo advance 10, repeating tile 4: four records, offsets of the last three -10 -7 -4. `negsuc n` is -(n + 1); the output has one place more, and numbers of its own, of which the last stay
     Stretches
     (stretch_request true true
@@ -163,8 +163,8 @@ unstarred =
     -- Mongolian D, 180B (T), 180E (U): isol isol none
     Joins
     (setting_of [] [] [] [] features true)
-    (line_of (0x1820 ∷ 0x180_b ∷ 0x180_e ∷ []) (D ∷ T ∷ U ∷ []) (Lo ∷ Mn ∷ Cf ∷ []) (128 ∷ 128 ∷ 128 ∷ []) (medi ∷ medi ∷ medi ∷ []) (255 ∷ 255 ∷ 255 ∷ []))
-    (line_of (0x1820 ∷ 0x180_b ∷ 0x180_e ∷ []) (D ∷ T ∷ U ∷ []) (Lo ∷ Mn ∷ Cf ∷ []) (128 ∷ 128 ∷ 128 ∷ []) (isol ∷ isol ∷ none ∷ []) (129 ∷ 129 ∷ 128 ∷ [])) ∷
+    (line_of (0x1820 ∷ 0x180B ∷ 0x180E ∷ []) (D ∷ T ∷ U ∷ []) (Lo ∷ Mn ∷ Cf ∷ []) (128 ∷ 128 ∷ 128 ∷ []) (medi ∷ medi ∷ medi ∷ []) (255 ∷ 255 ∷ 255 ∷ []))
+    (line_of (0x1820 ∷ 0x180B ∷ 0x180E ∷ []) (D ∷ T ∷ U ∷ []) (Lo ∷ Mn ∷ Cf ∷ []) (128 ∷ 128 ∷ 128 ∷ []) (isol ∷ isol ∷ none ∷ []) (129 ∷ 129 ∷ 128 ∷ [])) ∷
     -- D D D, the middle replaced by U: isol none isol
     Replaces
     (setting [] [])

@@ -40,7 +40,7 @@ WritesForms = (s : Setting) (l : Line) (r : Verdict) (m : Line) → Joining s l 
 -- ---- an accepted call: the actions
 -- "180B, 180C, 180D or 180F (hex)"
 abbrev pub selectors : List ℕ
-selectors = 0x180_b ∷ 0x180_c ∷ 0x180_d ∷ 0x180_f ∷ []
+selectors = 0x180B ∷ 0x180C ∷ 0x180D ∷ 0x180F ∷ []
 
 -- record j of a Mongolian line is not the first, and its code is one of these
 pub record Follows (s : Setting) (l : Line) (j : ℕ) : Type 0 where

@@ -20,27 +20,27 @@ features = 0x1 ∷ 0x2 ∷ 0x4 ∷ 0x8 ∷ 0x10 ∷ 0x20 ∷ 0x40 ∷ []
 -- document 01's: D D D, the middle replaced by U: isol none isol. The new masks are made of the base masks, not of the old ones
 pub worked :
     replace_after (setting_of [] [] [] [] features false) (request_of 1 0x41 U Lu)
-    (line_of (0x628 ∷ 0x62_a ∷ 0x62_b ∷ []) (D ∷ D ∷ D ∷ []) (Lo ∷ Lo ∷ Lo ∷ []) (0x100 ∷ 0x200 ∷ 0x400 ∷ []) (init ∷ medi ∷ fina ∷ []) (0x140 ∷ 0x210 ∷ 0x402 ∷ []))
+    (line_of (0x628 ∷ 0x62A ∷ 0x62B ∷ []) (D ∷ D ∷ D ∷ []) (Lo ∷ Lo ∷ Lo ∷ []) (0x100 ∷ 0x200 ∷ 0x400 ∷ []) (init ∷ medi ∷ fina ∷ []) (0x140 ∷ 0x210 ∷ 0x402 ∷ []))
     ≡ After 0
-    (line_of (0x628 ∷ 0x41 ∷ 0x62_b ∷ []) (D ∷ U ∷ D ∷ []) (Lo ∷ Lu ∷ Lo ∷ []) (0x100 ∷ 0x200 ∷ 0x400 ∷ []) (isol ∷ none ∷ isol ∷ []) (0x101 ∷ 0x200 ∷ 0x401 ∷ []))
+    (line_of (0x628 ∷ 0x41 ∷ 0x62B ∷ []) (D ∷ U ∷ D ∷ []) (Lo ∷ Lu ∷ Lo ∷ []) (0x100 ∷ 0x200 ∷ 0x400 ∷ []) (isol ∷ none ∷ isol ∷ []) (0x101 ∷ 0x200 ∷ 0x401 ∷ []))
 unfolding form mask replace_refusal
 worked = refl
 
 -- a line that was not current: the stale action and mask of the record before the place stay, and are not copied
 pub stale :
-    replace_after (setting_of [] [] [] [] features true) (request_of 1 0x180_c T Mn)
-    (line_of (0x70_f ∷ 0x180_b ∷ []) (T ∷ T ∷ []) (Cf ∷ Mn ∷ []) (0 ∷ 0 ∷ []) (medi ∷ medi ∷ []) (0x10 ∷ 0x10 ∷ []))
-    ≡ After 0 (line_of (0x70_f ∷ 0x180_c ∷ []) (T ∷ T ∷ []) (Cf ∷ Mn ∷ []) (0 ∷ 0 ∷ []) (medi ∷ none ∷ []) (0x10 ∷ 0 ∷ []))
+    replace_after (setting_of [] [] [] [] features true) (request_of 1 0x180C T Mn)
+    (line_of (0x70F ∷ 0x180B ∷ []) (T ∷ T ∷ []) (Cf ∷ Mn ∷ []) (0 ∷ 0 ∷ []) (medi ∷ medi ∷ []) (0x10 ∷ 0x10 ∷ []))
+    ≡ After 0 (line_of (0x70F ∷ 0x180C ∷ []) (T ∷ T ∷ []) (Cf ∷ Mn ∷ []) (0 ∷ 0 ∷ []) (medi ∷ none ∷ []) (0x10 ∷ 0 ∷ []))
 unfolding form mask replace_refusal
 stale = refl
 
 -- Mongolian: the runs of selectors behind the nearest letter on each side and behind the place itself are joined afresh with them
 runs :
     replace_after (setting_of [] [] [] [] features true) (request_of 2 0x1820 D Lo)
-    (line_of (0x1820 ∷ 0x180_b ∷ 0x41 ∷ 0x180_c ∷ 0x180_f ∷ 0x1820 ∷ 0x180_d ∷ []) (D ∷ T ∷ U ∷ T ∷ T ∷ D ∷ T ∷ []) (Lo ∷ Mn ∷ Lu ∷ Mn ∷ Mn ∷ Lo ∷ Mn ∷ [])
+    (line_of (0x1820 ∷ 0x180B ∷ 0x41 ∷ 0x180C ∷ 0x180F ∷ 0x1820 ∷ 0x180D ∷ []) (D ∷ T ∷ U ∷ T ∷ T ∷ D ∷ T ∷ []) (Lo ∷ Mn ∷ Lu ∷ Mn ∷ Mn ∷ Lo ∷ Mn ∷ [])
     (0 ∷ 0 ∷ 0 ∷ 0 ∷ 0 ∷ 0 ∷ 0 ∷ []) (isol ∷ isol ∷ none ∷ none ∷ none ∷ isol ∷ isol ∷ []) (0x1 ∷ 0x1 ∷ 0 ∷ 0 ∷ 0 ∷ 0x1 ∷ 0x1 ∷ []))
     ≡ After 0
-    (line_of (0x1820 ∷ 0x180_b ∷ 0x1820 ∷ 0x180_c ∷ 0x180_f ∷ 0x1820 ∷ 0x180_d ∷ []) (D ∷ T ∷ D ∷ T ∷ T ∷ D ∷ T ∷ []) (Lo ∷ Mn ∷ Lo ∷ Mn ∷ Mn ∷ Lo ∷ Mn ∷ [])
+    (line_of (0x1820 ∷ 0x180B ∷ 0x1820 ∷ 0x180C ∷ 0x180F ∷ 0x1820 ∷ 0x180D ∷ []) (D ∷ T ∷ D ∷ T ∷ T ∷ D ∷ T ∷ []) (Lo ∷ Mn ∷ Lo ∷ Mn ∷ Mn ∷ Lo ∷ Mn ∷ [])
     (0 ∷ 0 ∷ 0 ∷ 0 ∷ 0 ∷ 0 ∷ 0 ∷ []) (init ∷ init ∷ medi ∷ medi ∷ medi ∷ fina ∷ fina ∷ []) (0x40 ∷ 0x40 ∷ 0x10 ∷ 0x10 ∷ 0x10 ∷ 0x2 ∷ 0x2 ∷ []))
 unfolding form mask replace_refusal
 runs = refl

@@ -5,7 +5,7 @@ use Rattle.std.specs.Prelude.{Bool, cond, ◌||◌, List, [], ◌∷◌, ℕ, ze
 
 -- Mongolian free variation selectors one to three, and four; 180E between them is the vowel separator and is none
 abbrev pub selector : ℕ → Bool
-selector c = eqb c 0x180_b || (eqb c 0x180_c || (eqb c 0x180_d || eqb c 0x180_f))
+selector c = eqb c 0x180B || (eqb c 0x180C || (eqb c 0x180D || eqb c 0x180F))
 
 -- the actions from a record on, behind one whose action is v: a selector "takes the action of the record before it, in order", so
 -- a selector behind a selector takes what that one took. A record without a code keeps its action; a code without a record counts for nothing

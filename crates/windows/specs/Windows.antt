@@ -11,7 +11,7 @@ use Rattle.windows.specs.Tables.{initial, medial, final, lam_alef, shadda}
 unfoldable pub signed : Font → Bool
 signed f =
     eqb (glyph_of f 0x0627) 199
-    && (eqb (glyph_of f 0x0644) 225 && (eqb (glyph_of f 0x0649) 236 && (eqb (glyph_of f 0x064_a) 237 && eqb (glyph_of f 0x0652) 250)))
+    && (eqb (glyph_of f 0x0644) 225 && (eqb (glyph_of f 0x0649) 236 && (eqb (glyph_of f 0x064A) 237 && eqb (glyph_of f 0x0652) 250)))
 
 -- isol is not used, and marks are not passed over where they are replaced
 abbrev pub windows : List ℕ → List Entry

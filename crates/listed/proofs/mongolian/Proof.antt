@@ -26,6 +26,6 @@ mongolian_spec =
     (λ c. word-is c.match.keys9 tt)
     (λ c. word-is c.match.keys10 tt)
     (λ c. word-is c.match.keys11 tt)
-    (λ c. let s : tie.Start = search in word_none 0x180 0x18_b listed (
-    0x180 ∷ 0x181 ∷ 0x182 ∷ 0x183 ∷ 0x184 ∷ 0x185 ∷ 0x186 ∷ 0x187 ∷ 0x188 ∷ 0x189 ∷ 0x18_a ∷
+    (λ c. let s : tie.Start = search in word_none 0x180 0x18B listed (
+    0x180 ∷ 0x181 ∷ 0x182 ∷ 0x183 ∷ 0x184 ∷ 0x185 ∷ 0x186 ∷ 0x187 ∷ 0x188 ∷ 0x189 ∷ 0x18A ∷
     []) tt s.args.block (omega (arith, s.pre.0)) (omega (arith, s.pre.1)) c.match.rest))

@@ -42,8 +42,8 @@ c has t = record { code = c; type = t }
 -- letters of each type; 0640 is a joining causer, 200C is listed, 064E is not; the whole number counts, also above 10FFFF; 10ED9 is new in 18.0.0
 abbrev pub examples : List Typed
 examples =
-    (0x0628 has D) ∷ (0x0627 has R) ∷ (0x0710 has Alaph) ∷ (0x0715 has DalathRish) ∷ (0x0640 has D) ∷ (0x200_c has U) ∷ (0x070_f has T) ∷ (0x064_e has X) ∷
-    (0x10628 has X) ∷ (0x110628 has X) ∷ (0x80000628 has X) ∷ (0x_fFFFFFFF has X) ∷ (0x10_eD9 has L) ∷ []
+    (0x0628 has D) ∷ (0x0627 has R) ∷ (0x0710 has Alaph) ∷ (0x0715 has DalathRish) ∷ (0x0640 has D) ∷ (0x200C has U) ∷ (0x070F has T) ∷ (0x064E has X) ∷
+    (0x10628 has X) ∷ (0x110628 has X) ∷ (0x80000628 has X) ∷ (0xFFFFFFFF has X) ∷ (0x10ED9 has L) ∷ []
 
 abbrev pub Examples : Type 0
 Examples = map (λ e. type_in listed e.code) examples ≡ map (λ e. e.type) examples

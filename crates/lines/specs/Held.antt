@@ -1,7 +1,9 @@
 -- A held line and what it stands in: `Letters` the types of letters as they are lent; `Setting` all that a line is joined by; `Line` a line's columns; `letters_of`, `setting_of`, `frame_by`, `line_of`, `manner_of` these from lists;
--- `letters_now`, `setting_now`, `line_now` from what a call is lent, as a `requires` has it; `setting_lent`, `line_lent` as an `ensures` has it.
+-- `letters_now`, `setting_now`, `line_now` from what a call is lent, as a `requires` has it; `setting_lent`, `line_lent` as an `ensures` has it;
+-- `SliceMut`, `BorrowedMut`, `line_mut_now`, `line_mut_lent`, `line_all_mut_now`, `line_all_mut_lent` the same where a call may write columns (`&mut`).
 -- Assumes nothing.
 use Rattle.std.specs.Prelude.{Bool, List, ℕ}
+use Rattle.std.specs.Borrow.{MutBor}
 use denote.Triple.Both.{Both}
 use Rattle.lines.specs.declared.Frame.{Frame}
 use Rattle.lines.specs.declared.Manner.{Manner}
@@ -68,4 +70,36 @@ line_lent codes types categories base actions masks =
     record {
       entry = line_now codes.entry types.entry categories.entry base.entry actions.entry masks.entry;
       exit = line_now codes.exit types.exit categories.exit base.exit actions.exit masks.exit;
+    }
+
+-- a slice that a call may write, as `Slice` and `Borrowed` are of one that it only reads
+abbrev pub SliceMut : Type 0 → Type 0
+SliceMut A = MutBor (List A)
+
+abbrev pub BorrowedMut : Type 0 → Type 0
+BorrowedMut A = Both (SliceMut A) (SliceMut A)
+
+-- the line from the parameters of a call that may write its actions and masks, as joining does
+abbrev pub line_mut_now : Slice ℕ → Slice ℕ → Slice ℕ → Slice ℕ → SliceMut ℕ → SliceMut ℕ → Line
+line_mut_now codes types categories base actions masks =
+    line_of codes.now types.now categories.now base.now actions.now masks.now
+
+abbrev pub line_mut_lent : Borrowed ℕ → Borrowed ℕ → Borrowed ℕ → Borrowed ℕ → BorrowedMut ℕ → BorrowedMut ℕ → Both Line Line
+line_mut_lent codes types categories base actions masks =
+    record {
+      entry = line_mut_now codes.entry types.entry categories.entry base.entry actions.entry masks.entry;
+      exit = line_mut_now codes.exit types.exit categories.exit base.exit actions.exit masks.exit;
+    }
+
+-- and of one that may write its codes and letters as well, as replacing does
+abbrev pub line_all_mut_now : SliceMut ℕ → SliceMut ℕ → SliceMut ℕ → Slice ℕ → SliceMut ℕ → SliceMut ℕ → Line
+line_all_mut_now codes types categories base actions masks =
+    line_of codes.now types.now categories.now base.now actions.now masks.now
+
+abbrev pub line_all_mut_lent :
+    BorrowedMut ℕ → BorrowedMut ℕ → BorrowedMut ℕ → Borrowed ℕ → BorrowedMut ℕ → BorrowedMut ℕ → Both Line Line
+line_all_mut_lent codes types categories base actions masks =
+    record {
+      entry = line_all_mut_now codes.entry types.entry categories.entry base.entry actions.entry masks.entry;
+      exit = line_all_mut_now codes.exit types.exit categories.exit base.exit actions.exit masks.exit;
     }

@@ -5,7 +5,7 @@ ghost use Rattle.std.specs.Prelude.{◌≡◌, cond, length};
 ghost use Rattle.laws.specs.Rows.{first};
 ghost use Rattle.refusals.specs.Numbers.{said};
 ghost use Rattle.selectors.specs.Selectors.{settled};
-ghost use Rattle.lines.specs.Held.{letters_now, setting_now, line_now, setting_lent, line_lent};
+ghost use Rattle.lines.specs.Held.{letters_now, setting_now, line_mut_now, setting_lent, line_lent, line_mut_lent};
 ghost use Rattle.lines.specs.Joined.{even_line_lem, known_letters_lem, refusal_rows, refusal, joined_line, Joining};
 
 use letters::{Category, JoiningType};
@@ -113,10 +113,10 @@ fn join_accepted(
 )
     requires { refusal
         (setting_now pre_types pre_categories post_types post_categories manner)
-        (line_now codes types categories base actions masks)
+        (line_mut_now codes types categories base actions masks)
         ≡ 0 }
     ensures { let s = setting_lent pre_types pre_categories post_types post_categories manner in
-        let l = line_lent codes types categories base actions masks in
+        let l = line_mut_lent codes types categories base actions masks in
         l.exit ≡ joined_line s l.entry }
 {
     joining::arabic_joining(
@@ -148,7 +148,7 @@ pub fn join_line(
     masks: &mut [u32],
 ) -> Verdict
     ensures { let s = setting_lent pre_types pre_categories post_types post_categories manner in
-        let l = line_lent codes types categories base actions masks in
+        let l = line_mut_lent codes types categories base actions masks in
         Joining s l.entry result l.exit }
 {
     let line_even = even_line(codes, types, categories, base, actions, masks);

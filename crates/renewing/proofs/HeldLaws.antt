@@ -13,7 +13,7 @@ use lib.ListN.{length, get_or, drop}
 use Rattle.shapes.proofs.JoiningLaws.{length-line_types}
 use Rattle.shapes.specs.Places.{place_before, place_of, place_behind}
 use Rattle.selectors.specs.Selectors.{run}
-use Rattle.masks.specs.Masks.{mask, masks}
+use Rattle.masks.specs.Masks.{mask}
 use Rattle.masks.proofs.MaskLaws.{masks-at}
 use Rattle.lines.specs.declared.Frame.{Frame}
 use Rattle.lines.specs.Held.{Line}

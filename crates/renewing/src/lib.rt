@@ -6,7 +6,7 @@ ghost use Rattle.std.specs.Prelude.{◌≡◌, cond, ◌+◌, ◌<◌, ◌≤◌
 ghost use Rattle.shapes.specs.Joining.{passed, latest, nearest, line_types};
 ghost use Rattle.selectors.specs.Selectors.{run, base as base_of};
 ghost use Rattle.joining.specs.Joinable.{Joinable};
-ghost use Rattle.lines.specs.Held.{line_now, line_lent};
+ghost use Rattle.lines.specs.Held.{line_mut_now, line_mut_lent};
 ghost use Rattle.lines.specs.Joined.{actions_between};
 ghost use Rattle.renewing.specs.Renewed.{reached, touched, renewed, span, mask_at, renewed_line};
 ghost use Rattle.renewing.specs.Renewable.{Renewable, Beside};
@@ -99,9 +99,9 @@ fn renew(
     actions: &mut [u8],
     masks: &mut [u32],
 )
-    requires renewable { Renewable frame (line_now codes types categories base actions masks) }
+    requires renewable { Renewable frame (line_mut_now codes types categories base actions masks) }
     requires beside { k < length types.now → Beside frame (line_types types.now categories.now) k p n }
-    ensures { let l = line_lent codes types categories base actions masks in
+    ensures { let l = line_mut_lent codes types categories base actions masks in
         l.exit ≡ renewed_line frame (reached frame.mongolian l.entry.codes k) l.entry }
 {
     if k < types.len() {
@@ -157,9 +157,9 @@ pub fn refresh(
     actions: &mut [u8],
     masks: &mut [u32],
 )
-    requires renewable { Renewable frame (line_now codes types categories base actions masks) }
+    requires renewable { Renewable frame (line_mut_now codes types categories base actions masks) }
     requires k_in_bounds { k < length types.now }
-    ensures { let l = line_lent codes types categories base actions masks in
+    ensures { let l = line_mut_lent codes types categories base actions masks in
         l.exit ≡ renewed_line frame (touched frame l.entry k) l.entry }
 {
     let t = joining::type_at(types, categories, k);

@@ -4,7 +4,7 @@
 ghost use Rattle.std.specs.Prelude.{◌≡◌, false, []};
 ghost use Rattle.laws.specs.Rows.{first};
 ghost use Rattle.refusals.specs.Numbers.{said};
-ghost use Rattle.lines.specs.Held.{setting_now, line_now, manner_of, setting_lent, line_lent};
+ghost use Rattle.lines.specs.Held.{setting_now, line_all_mut_now, manner_of, setting_lent, line_lent, line_all_mut_lent};
 ghost use Rattle.lines.specs.Joined.{frame_of};
 ghost use Rattle.replacing.specs.Replaced.{asked, replaced_line, replace_rows, replace_refusal, Replacing};
 
@@ -39,10 +39,10 @@ fn replace_accepted(
     requires { replace_refusal
         (setting_now pre_types pre_categories post_types post_categories manner)
         (asked request)
-        (line_now codes types categories base actions masks)
+        (line_all_mut_now codes types categories base actions masks)
         ≡ 0 }
     ensures { let s = setting_lent pre_types pre_categories post_types post_categories manner in
-        let l = line_lent codes types categories base actions masks in
+        let l = line_all_mut_lent codes types categories base actions masks in
         l.exit ≡ replaced_line (frame_of s) (asked request) l.entry }
 {
     let place = request.place;
@@ -122,7 +122,7 @@ pub fn replace_letter(
     request: Request,
 ) -> Verdict
     ensures { let s = setting_lent pre_types pre_categories post_types post_categories manner in
-        let l = line_lent codes types categories base actions masks in
+        let l = line_all_mut_lent codes types categories base actions masks in
         Replacing s (asked request) l.entry result l.exit }
 {
     let verdict = refused(

@@ -12,8 +12,7 @@ use mir.Syntax.{w32, w64}
 use mir.Val.{Fits, SFits}
 use Rattle.fitting.specs.Fit.{count}
 use Rattle.fitting.proofs.SignedLaws.{back}
-use Rattle.fitting.proofs.count_of.Statement.{statement}
-use Rattle.fitting.proofs.count_of.Tie as tie
+use Rattle.fitting.proofs.count_of.Goals as goal
 
 below : (x : ℤ) → lt_z x (pos 0) ≡ true → 0 ≡ count x
 unfolding count
@@ -29,15 +28,12 @@ unfolding count
 same (pos n) e = refl
 same (negsuc n) e = let k : ◌≡◌ {A = ℕ} 0 1 = cc in absurd (omega arith)
 
-returns : tie.Need-returns
-returns c = below _ (rw (back c.before.ranges.x) at c.if1.true)
+pub returns-then-x-lt0 : goal.returns-then-x-lt0
+returns-then-x-lt0 c = below _ (rw (back c.ranges.x) at c.if-x-lt0.true)
 
-cast-result : tie.Need-overflow-cast-result
-cast-result c =
-    let f = c.before.ranges.x in rw (back f) (above _ (rw (back f) at c.if1.false) f)
+pub overflow_cast-result : goal.overflow_cast-result
+overflow_cast-result c =
+    let f = c.ranges.x in rw (back f) (above _ (rw (back f) at c.if-x-lt0.false) f)
 
-returns-2 : tie.Need-returns-2
-returns-2 c = let f = c.before.ranges.x in rw (back f) (same _ (rw (back f) at c.if1.false))
-
-pub count_of_spec : {M : Type 1} → statement M
-count_of_spec = tie.close (tie.spec returns cast-result returns-2)
+pub returns : goal.returns
+returns c = let f = c.ranges.x in rw (back f) (same _ (rw (back f) at c.if-x-lt0.false))

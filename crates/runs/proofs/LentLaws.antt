@@ -4,7 +4,7 @@ use mathlib.Core.Path.{◌≡◌, refl}
 use Prim.Native.Nat.{ℕ}
 use lib.IntN.{ℤ}
 use Rattle.laws.specs.Lent.{Borrowed}
-use Rattle.runs.specs.Records.{Columns, columns_lent}
+use Rattle.runs.specs.Records.{columns_lent}
 
 pub columns-lent :
     (glyphs categories ignorables actions : Borrowed ℕ) (widths advances offsets : Borrowed ℤ)

@@ -3,7 +3,7 @@
 
 ghost use Rattle.std.specs.Prelude.{◌≡◌, ◌+◌, ◌≤◌, length};
 ghost use Rattle.std.proofs.Math.Seq.{slice};
-ghost use Rattle.runs.specs.Records.{columns_now, columns_lent};
+ghost use Rattle.runs.specs.Records.{columns_now, columns_lent, columns_mut_now, columns_mut_lent};
 ghost use Rattle.laws.specs.Lists.{pasted};
 ghost use Rattle.copying.specs.Pasted.{Copyable, PartCopied};
 
@@ -42,10 +42,10 @@ pub fn copy_columns(
 )
     requires { Copyable i s
         (columns_now glyphs widths categories ignorables actions advances offsets)
-        o (columns_now to_glyphs to_widths to_categories to_ignorables to_actions to_advances to_offsets) }
+        o (columns_mut_now to_glyphs to_widths to_categories to_ignorables to_actions to_advances to_offsets) }
     ensures { PartCopied i s
         (columns_lent glyphs widths categories ignorables actions advances offsets)
-        o (columns_lent to_glyphs to_widths to_categories to_ignorables to_actions to_advances to_offsets) }
+        o (columns_mut_lent to_glyphs to_widths to_categories to_ignorables to_actions to_advances to_offsets) }
 {
     parts::copy_numbers(glyphs, i, s, to_glyphs, o);
     copy_signed(widths, i, s, to_widths, o);
@@ -78,10 +78,10 @@ pub fn copy_records(
 )
     requires { Copyable i s
         (columns_now glyphs widths categories ignorables actions advances offsets)
-        o (columns_now to_glyphs to_widths to_categories to_ignorables to_actions to_advances to_offsets) }
+        o (columns_mut_now to_glyphs to_widths to_categories to_ignorables to_actions to_advances to_offsets) }
     ensures { PartCopied i s
         (columns_lent glyphs widths categories ignorables actions advances offsets)
-        o (columns_lent to_glyphs to_widths to_categories to_ignorables to_actions to_advances to_offsets) }
+        o (columns_mut_lent to_glyphs to_widths to_categories to_ignorables to_actions to_advances to_offsets) }
 {
     let mut j = 0;
     while j < s {

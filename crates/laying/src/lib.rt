@@ -1,7 +1,7 @@
 // Laying: records of a line copied to where they come in the lent output.
 #![tactic(auto)]
 
-ghost use Rattle.runs.specs.Records.{columns_now, columns_lent};
+ghost use Rattle.runs.specs.Records.{columns_now, columns_lent, columns_mut_now, columns_mut_lent};
 ghost use Rattle.laying.specs.Laid.{Keepable, PartKept};
 
 // Fewer records than this are copied record by record, which takes fewer instructions then.
@@ -31,10 +31,10 @@ pub fn keep(
 )
     requires { Keepable k s
         (columns_now glyphs widths categories ignorables actions advances offsets)
-        m at (columns_now to_glyphs to_widths to_categories to_ignorables to_actions to_advances to_offsets) }
+        m at (columns_mut_now to_glyphs to_widths to_categories to_ignorables to_actions to_advances to_offsets) }
     ensures { PartKept rtl k s
         (columns_lent glyphs widths categories ignorables actions advances offsets)
-        m at (columns_lent to_glyphs to_widths to_categories to_ignorables to_actions to_advances to_offsets) }
+        m at (columns_mut_lent to_glyphs to_widths to_categories to_ignorables to_actions to_advances to_offsets) }
 {
     let i = runs::part(rtl, actions.len(), k, s);
     let o = runs::part(rtl, m, at, s);

@@ -3,7 +3,7 @@
 
 ghost use Rattle.std.specs.Prelude.{◌≡◌, cond, ◌+◌, ◌≤◌, eqb};
 ghost use Rattle.letters.specs.Actions.{repeating};
-ghost use Rattle.runs.specs.Records.{columns_now, columns_lent};
+ghost use Rattle.runs.specs.Records.{columns_mut_now, columns_mut_lent};
 ghost use Rattle.runs.specs.Stretched.{moved as moved_by, pieces, placed};
 ghost use Rattle.copying.specs.Pasted.{Roomy};
 ghost use Rattle.laying.specs.Laid.{LaidIn};
@@ -48,10 +48,10 @@ fn place_tile(
     to_offsets: &mut [i32],
 ) -> i32
     requires times_bound { at + (1 + times) ≤ m }
-    requires roomy { Roomy m (columns_now to_glyphs to_widths to_categories to_ignorables to_actions to_advances to_offsets) }
+    requires roomy { Roomy m (columns_mut_now to_glyphs to_widths to_categories to_ignorables to_actions to_advances to_offsets) }
     ensures next { result ≡ after rtl start (pieces times overlap tile) }
     ensures placed { LaidIn rtl m at (placed rtl start (pieces times overlap tile))
-        (columns_lent to_glyphs to_widths to_categories to_ignorables to_actions to_advances to_offsets) }
+        (columns_mut_lent to_glyphs to_widths to_categories to_ignorables to_actions to_advances to_offsets) }
 {
     let width = tile.width;
     let end = at + 1 + times;
@@ -110,10 +110,10 @@ pub fn place_run(
 ) -> usize
     requires { Placeable rtl k run
         (bare_now glyphs widths categories ignorables actions)
-        m at (columns_now to_glyphs to_widths to_categories to_ignorables to_actions to_advances to_offsets) }
+        m at (columns_mut_now to_glyphs to_widths to_categories to_ignorables to_actions to_advances to_offsets) }
     ensures { RunPlaced rtl k run
         (bare_lent glyphs widths categories ignorables actions)
-        m at result (columns_lent to_glyphs to_widths to_categories to_ignorables to_actions to_advances to_offsets) }
+        m at result (columns_mut_lent to_glyphs to_widths to_categories to_ignorables to_actions to_advances to_offsets) }
 {
     let n = actions.len();
     let past = run.past;

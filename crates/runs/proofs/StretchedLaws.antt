@@ -14,7 +14,7 @@ use Rattle.letters.specs.Actions.{repeating}
 use Rattle.runs.specs.Records.{Record, kept}
 use Rattle.runs.specs.declared.Tile.{Tile}
 use Rattle.runs.specs.Runs.{acts, is_tile, is_plain, plain, run, past_run, tiles, copies_of}
-use Rattle.runs.specs.Stretched.{Piece, piece, pieces, copies_for, run_pieces, in_order, placed, placed_run, worked, stretched, records_added}
+use Rattle.runs.specs.Stretched.{next, Piece, piece, pieces, copies_for, run_pieces, in_order, placed, placed_run, worked, stretched, records_added}
 use Rattle.runs.proofs.RecordLaws.{length_in_order}
 
 -- ---- at a record that is no tile
@@ -109,7 +109,7 @@ added-at-run (r ∷ rs) e = added-run r rs e
 pub length-placed : (rtl : Bool) (x : ℤ) (ps : List Piece) → length (placed rtl x ps) ≡ length ps
 unfolding placed
 length-placed rtl x [] = refl
-length-placed rtl x (p ∷ ps) = ap suc (length-placed rtl _ ps)
+length-placed rtl x (p ∷ ps) = ap suc (length-placed rtl (next rtl x p) ps)
 
 pub length-pieces : (n : ℕ) (overlap : ℤ) (t : Tile) → length (pieces n overlap t) ≡ 1 + n
 unfolding pieces

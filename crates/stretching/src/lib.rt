@@ -4,7 +4,7 @@
 ghost use Rattle.std.specs.Prelude.{◌≡◌, true, ◌≤◌, length};
 ghost use Rattle.refusals.specs.Columns.{line_limit, at_most};
 ghost use Rattle.letters.specs.Actions.{repeating};
-ghost use Rattle.runs.specs.Records.{columns_lent};
+ghost use Rattle.runs.specs.Records.{columns_lent, columns_mut_lent};
 ghost use Rattle.runs.specs.Measured.{measures_now, measures_lent, Even};
 ghost use Rattle.stretching.specs.Stretching.{stretched_limit, stretch_request, new_line, differing, lacking, number_said, length_said, NewLength, Judging, Stretching};
 
@@ -185,7 +185,7 @@ pub fn stretch(
     to_offsets: &mut [i32],
 ) -> Answer
     ensures { let line = columns_lent glyphs widths categories ignorables actions advances offsets in
-        let output = columns_lent to_glyphs to_widths to_categories to_ignorables to_actions to_advances to_offsets in
+        let output = columns_mut_lent to_glyphs to_widths to_categories to_ignorables to_actions to_advances to_offsets in
         Stretching (stretch_request recorded rtl line.entry) output.entry result output.exit }
 {
     let answer = judge(

@@ -1,7 +1,7 @@
 // Writing: the stretched line, laid into the lent output.
 #![tactic(auto)]
 
-ghost use Rattle.runs.specs.Records.{columns_now, columns_lent};
+ghost use Rattle.runs.specs.Records.{columns_now, columns_lent, columns_mut_now, columns_mut_lent};
 ghost use Rattle.writing.specs.Whole.{Writable, LineWritten};
 
 // The whole work: the records before a run are kept, the run is placed, and so on to the end. The stretched line has `m` records.
@@ -25,10 +25,10 @@ pub fn write(
 )
     requires { Writable rtl
         (columns_now glyphs widths categories ignorables actions advances offsets)
-        m (columns_now to_glyphs to_widths to_categories to_ignorables to_actions to_advances to_offsets) }
+        m (columns_mut_now to_glyphs to_widths to_categories to_ignorables to_actions to_advances to_offsets) }
     ensures { LineWritten rtl
         (columns_lent glyphs widths categories ignorables actions advances offsets)
-        m (columns_lent to_glyphs to_widths to_categories to_ignorables to_actions to_advances to_offsets) }
+        m (columns_mut_lent to_glyphs to_widths to_categories to_ignorables to_actions to_advances to_offsets) }
 {
     let n = actions.len();
     let mut at = 0;

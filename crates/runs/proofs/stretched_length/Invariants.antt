@@ -1,0 +1,15 @@
+use Prim.Native.Nat.{◌+◌, ◌-◌, ◌*◌, ◌≤◌}
+use lib.ListN.{length}
+use Rattle.refusals.specs.Columns.{line_limit}
+use Rattle.runs.specs.Records.{Columns}
+use Rattle.runs.specs.Stretched.{work}
+use Rattle.runs.specs.Measured.{Lent}
+use Rattle.runs.proofs.CountLaws.{Counting}
+use Rattle.runs.proofs.stretched_length.Given as goal
+
+abbrev pub invariant-loop-k : goal.invariant-loop-k
+invariant-loop-k l = (l.k ≤ length l.actions) × (l.total ≤ line_limit + 2147483648 * l.k)
+    × ((c : Columns) → Lent c l.widths l.categories l.ignorables l.actions l.advances → Counting (work l.rtl c) l.k l.total)
+
+abbrev pub decreases-loop-k : goal.decreases-loop-k
+decreases-loop-k l = length l.actions - l.k

@@ -10,7 +10,7 @@
 use Rattle.std.specs.Prelude.{ℕ, min, Bool, true, false, cond, ◌&&◌, List, [], ◌∷◌, map, eqb, length}
 use Rattle.std.proofs.lemmas.List.Edits.{sets}
 use denote.Triple.Both.{Both}
-use Rattle.laws.specs.Lent.{Borrowed}
+use Rattle.laws.specs.Lent.{BorrowedMut}
 use Rattle.entries.specs.declared.Entry.{Entry}
 use Rattle.entries.specs.declared.Line.{Line}
 use Rattle.entries.specs.declared.Line.TheVariants.{Other, Says}
@@ -70,7 +70,7 @@ pub data Closed : Type 0 where
   Close : Told → (codes widths types categories : List ℕ) → Closed
 
 -- What `f` makes of the columns: of those lent, `.entry`, and of those that come back, `.exit`.
-abbrev pub columns_lent : {A : Type 0} → (List ℕ → List ℕ → List ℕ → List ℕ → A) → Borrowed ℕ → Borrowed ℕ → Borrowed ℕ → Borrowed ℕ → Both A A
+abbrev pub columns_lent : {A : Type 0} → (List ℕ → List ℕ → List ℕ → List ℕ → A) → BorrowedMut ℕ → BorrowedMut ℕ → BorrowedMut ℕ → BorrowedMut ℕ → Both A A
 columns_lent f codes widths types categories =
     record {
       entry = f codes.entry.now widths.entry.now types.entry.now categories.entry.now;

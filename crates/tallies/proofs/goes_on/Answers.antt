@@ -1,0 +1,6 @@
+-- `tallies::goes_on` meets its contract.
+-- Assumes nothing.
+use Rattle.tallies.proofs.goes_on.Goals as goal
+
+pub returns : goal.returns
+returns c = rw c.is_case.ensures

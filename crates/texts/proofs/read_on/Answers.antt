@@ -1,0 +1,24 @@
+-- `texts::read_on` meets its contract: what the whole piece makes of the state that was handed over, the bytes that are left make of the present one.
+-- Assumes nothing.
+use mathlib.Core.Path.{sym, ap, ◌∙◌}
+use borrow.Author.Rules.{rules}
+use lib.ListN.{drop_of_length-le}
+use Rattle.texts.specs.Steps.{Hold, read_on}
+use Rattle.texts.proofs.ReadLaws.{read_next}
+use Rattle.texts.proofs.read_on.Goals as goal
+
+pub loop-i-preserved : goal.loop-i-preserved
+loop-i-preserved c =
+    let l = c.loop-i in (
+      search rules,
+      search rules,
+      search rules,
+      search rules,
+      search rules,
+      l.invariant.5 ∙ read_next c.args.piece.now l.i _ _ c.loop-i-test.true c.step-at.ensures,
+    )
+
+pub returns : goal.returns
+returns c =
+    let l = c.loop-i in
+    sym (l.invariant.5 ∙ ap (read_on (Hold l.at l.codes l.widths l.types l.categories)) (drop_of_length-le _ c.loop-i-test.false))

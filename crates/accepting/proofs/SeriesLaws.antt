@@ -8,13 +8,10 @@ use native.Mathlib.Omega.{arith}
 use borrow.Author.Tests.{not-false, eq-eqb, ne_eqb, eqb-true, eqb-false, le-leb, lt-leb, ltb-true, ltb-false}
 use lib.Dec.{eqb, leb, ltb}
 use lib.ListN.{length, get_or}
-use types.Run.{OneOf}
-use denote.Enum.Declared.{tag_of}
 use Rattle.laws.proofs.TestLaws.{neither, and_false}
 use Rattle.words.specs.Words.{word_at, words_at}
 use Rattle.scanning.specs.Scans.{Rest, next, any, exactly, several, rise}
 use Rattle.scanning.specs.Grammar.{headed, counted, covered}
-use Rattle.accepting.specs.contracts.Scanned.{the_type}
 use Rattle.accepting.specs.declared.Scanned.{Scanned}
 use Rattle.accepting.specs.declared.Scanned.TheVariants.{At, Wrong, Short}
 use Rattle.accepting.specs.Scanned.{Took, these, Counts}
@@ -22,7 +19,7 @@ use Rattle.accepting.proofs.TookLaws.{took_else, took_then, took_place, took_the
 
 -- a scan that did not come to an end
 abbrev pub Stopped : Scanned → Type 0
-Stopped r = OneOf (1 ∷ 2 ∷ []) (tag_of the_type r)
+Stopped r = (p : ℕ) → r ≡ At p → ⊥
 
 -- ---- the head of a lookup
 module _ (kind : ℕ) (b : List ℕ) where

@@ -3,16 +3,12 @@
 use mathlib.Core.Path.{◌≡◌, refl, ap, subst, ◌∙◌}
 use mathlib.Core.Bool.{Bool, true, false}
 use mathlib.Core.List.{List, [], ◌∷◌}
-use mathlib.Core.Logic.{⊎_elim}
 use Prim.Native.Nat.{ℕ, suc, ◌+◌, ◌-◌, ◌/◌, ◌≤◌, ◌<◌}
 use native.Mathlib.Omega.{arith}
 use lib.ListN.{length}
-use types.Run.{OneOf}
-use denote.Enum.Declared.{tag_of}
 use Rattle.words.specs.Words.{word_at, words_at}
 use Rattle.words.proofs.WordLaws.{words-next, words-none, length-words}
 use Rattle.scanning.specs.Scans.{Rest, wrong, short, next, exactly}
-use Rattle.accepting.specs.contracts.Scanned.{the_type}
 use Rattle.accepting.specs.declared.Scanned.{Scanned}
 use Rattle.accepting.specs.declared.Scanned.TheVariants.{At, Wrong, Short}
 use Rattle.accepting.specs.Scanned.{from, after, stands, Took, these}
@@ -54,21 +50,21 @@ module _ (b : List ℕ) (p : ℕ) (test : ℕ → Bool) (k : ℕ → Rest) where
   next-right h t = rw (from_next b p h, t)
 
 -- ---- a scan that stopped
-pub stopped : (r : Scanned) (b : List ℕ) (k m : Rest) → OneOf (1 ∷ 2 ∷ []) (tag_of the_type r) → after r b k ≡ after r b m
+pub stopped : (r : Scanned) (b : List ℕ) (k m : Rest) → ((q : ℕ) → r ≡ At q → ⊥) → after r b k ≡ after r b m
 unfolding after
-stopped (At p) b k m h = absurd (⊎_elim (λ e. omega arith) (λ e. omega arith) h)
+stopped (At p) b k m h = absurd (h p refl)
 stopped (Wrong p) b k m h = refl
 stopped Short b k m h = refl
 
-stopped-stands : (r : Scanned) (end room : ℕ) → OneOf (1 ∷ 2 ∷ []) (tag_of the_type r) → stands r end room
-stopped-stands (At p) end room h = absurd (⊎_elim (λ e. omega arith) (λ e. omega arith) h)
+stopped-stands : (r : Scanned) (end room : ℕ) → ((q : ℕ) → r ≡ At q → ⊥) → stands r end room
+stopped-stands (At p) end room h = absurd (h p refl)
 stopped-stands (Wrong p) end room h = tt
 stopped-stands Short end room h = tt
 
 -- ---- parts
 module _ {A B : Type 0} (part : (A → Rest) → Rest) (follows : A → (B → Rest) → Rest) {first : A} {e : ℕ} {b : List ℕ} {p : ℕ} where
   -- where the first part stops, so does the whole
-  pub took_else : (value : B) (end : ℕ) (r : Scanned) → Took part first e b p r → OneOf (1 ∷ 2 ∷ []) (tag_of the_type r) → Took (λ k. part (λ x. follows x k)) value end b p r
+  pub took_else : (value : B) (end : ℕ) (r : Scanned) → Took part first e b p r → ((q : ℕ) → r ≡ At q → ⊥) → Took (λ k. part (λ x. follows x k)) value end b p r
   took_else value end r t h =
       record {
         goes = λ k. t.goes (λ x. follows x k) ∙ stopped r b (follows first k) (k value) h;

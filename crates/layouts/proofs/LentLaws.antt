@@ -4,7 +4,7 @@ use mathlib.Core.Path.{◌≡◌, refl}
 use Prim.Native.Nat.{ℕ}
 use Rattle.laws.specs.Lent.{Borrowed}
 use Rattle.layouts.specs.declared.Kind.{Kind}
-use Rattle.layouts.specs.Lookups.{Lookup, lookup_lent}
+use Rattle.layouts.specs.Lookups.{lookup_lent}
 
 pub lookup-lent :
     (flags : ℕ) (kind : Kind) (glyphs substitutes : Borrowed ℕ)

@@ -93,7 +93,7 @@ module _ (l : Lookup) (room : ℕ) where
   pub none-given : Allowed l room → write_refusal l room ≡ 0
   unfolding write_refusal
   none-given a =
-      rw (eq-eqb (length l.glyphs) (length l.substitutes * width l.kind) a.even, a.in-range, a.small, le-ltb room (2 * length (words_of l)) a.enough)
+      rw (eq-eqb (length l.glyphs) (length l.substitutes * width l.kind) a.even, a.in_range, a.small, le-ltb room (2 * length (words_of l)) a.enough)
 
 -- ---- what a call answers and leaves
 module _ (l : Lookup) (area : List ℕ) where

@@ -60,13 +60,13 @@ module _ (d : List ℕ) (i : ℕ) (x us : List ℕ) (i' : ℕ) (e : i' ≡ i + 2
 
 module _ {whole : List ℕ} {end : ℕ} {d : List ℕ} {i j k : ℕ} where
   pub room-first : (x us : List ℕ) {vs ws : List ℕ} → ToCome whole end d i (x ++ us) j vs k ws → i + 2 * length x ≤ length d
-  room-first x us t = omega (arith, t.apart.first_ends, t.apart.second-ends, t.apart.third-ends, length-append x us)
+  room-first x us t = omega (arith, t.apart.first_ends, t.apart.second-ends, t.apart.third_ends, length-append x us)
 
   pub room-second : (x vs : List ℕ) {us ws : List ℕ} → ToCome whole end d i us j (x ++ vs) k ws → j + 2 * length x ≤ length d
-  room-second x vs t = omega (arith, t.apart.second-ends, t.apart.third-ends, length-append x vs)
+  room-second x vs t = omega (arith, t.apart.second-ends, t.apart.third_ends, length-append x vs)
 
   pub room_third : (x ws : List ℕ) {us vs : List ℕ} → ToCome whole end d i us j vs k (x ++ ws) → k + 2 * length x ≤ length d
-  room_third x ws t = omega (arith, t.apart.third-ends, length-append x ws)
+  room_third x ws t = omega (arith, t.apart.third_ends, length-append x ws)
 
   module _ {d' : List ℕ} where
     pub first_next : {x us vs ws : List ℕ} {i' : ℕ} → ToCome whole end d i (x ++ us) j vs k ws → Wrote d i x d' i' [] → ToCome whole end d' i' us j vs k ws
@@ -76,11 +76,11 @@ module _ {whole : List ℕ} {end : ℕ} {d : List ℕ} {i j k : ℕ} where
         let n = length-append x us in
         let f : i' + 2 * length us ≤ j = omega (arith, a.first_ends) in
         record {
-          apart = record { first_ends = f; second-ends = a.second-ends; third_ends = omega (arith, a.third-ends, w.same) };
+          apart = record { first_ends = f; second-ends = a.second-ends; third_ends = omega (arith, a.third_ends, w.same) };
           place = t.place;
           same = w.same ∙ t.same;
           made = ap (λ (y : List ℕ). placed y i' us j vs k ws) (ended w)
-              ∙ ap (λ (y : List ℕ). pasted (bytes ws) k (pasted (bytes vs) j y)) (next_here d i x us i' e (omega (arith, a.second-ends, a.third-ends)))
+              ∙ ap (λ (y : List ℕ). pasted (bytes ws) k (pasted (bytes vs) j y)) (next_here d i x us i' e (omega (arith, a.second-ends, a.third_ends)))
               ∙ t.made;
         }
 
@@ -91,11 +91,11 @@ module _ {whole : List ℕ} {end : ℕ} {d : List ℕ} {i j k : ℕ} where
         let n = length-append x vs in
         let f : j' + 2 * length vs ≤ k = omega (arith, a.second-ends) in
         record {
-          apart = record { first_ends = omega (arith, a.first_ends); second-ends = f; third_ends = omega (arith, a.third-ends, w.same) };
+          apart = record { first_ends = omega (arith, a.first_ends); second-ends = f; third_ends = omega (arith, a.third_ends, w.same) };
           place = t.place;
           same = w.same ∙ t.same;
           made = ap (λ (y : List ℕ). placed y i us j' vs k ws) (ended w)
-              ∙ ap (pasted (bytes ws) k) (next-behind d j x vs j' e i us a.first_ends (omega (arith, a.third-ends)))
+              ∙ ap (pasted (bytes ws) k) (next-behind d j x vs j' e i us a.first_ends (omega (arith, a.third_ends)))
               ∙ t.made;
         }
 
@@ -105,10 +105,10 @@ module _ {whole : List ℕ} {end : ℕ} {d : List ℕ} {i j k : ℕ} where
         let a = t.apart in
         let n = length-append x ws in
         record {
-          apart = record { first_ends = a.first_ends; second-ends = omega (arith, a.second-ends); third_ends = omega (arith, a.third-ends, w.same) };
+          apart = record { first_ends = a.first_ends; second-ends = omega (arith, a.second-ends); third_ends = omega (arith, a.third_ends, w.same) };
           place = omega (arith, t.place);
           same = w.same ∙ t.same;
-          made = ap (λ (y : List ℕ). placed y i us j vs k' ws) (ended w) ∙ next_last d k x ws k' e i us j vs a.first_ends a.second-ends (omega (arith, a.third-ends)) ∙ t.made;
+          made = ap (λ (y : List ℕ). placed y i us j vs k' ws) (ended w) ∙ next_last d k x ws k' e i us j vs a.first_ends a.second-ends (omega (arith, a.third_ends)) ∙ t.made;
         }
 
   pub all_there : ToCome whole end d i [] j [] k [] → d ≡ whole
@@ -118,7 +118,7 @@ module _ {whole : List ℕ} {end : ℕ} {d : List ℕ} {i j k : ℕ} where
 -- three parts that are to come
 pub to_come_lem : {area : List ℕ} {i : ℕ} {us : List ℕ} {j : ℕ} {vs : List ℕ} {k : ℕ} {ws : List ℕ} → Apart area i us j vs k ws → ToCome (placed area i us j vs k ws) (k + 2 * length ws) area i us j vs k ws
 to_come_lem {area} {i} {us} {j} {vs} {k} {ws} a =
-    let first = length-pasted (bytes us) i area (omega (arith, a.first_ends, a.second-ends, a.third-ends, length-bytes us)) in
-    let second = length-pasted (bytes vs) j (pasted (bytes us) i area) (omega (arith, a.second-ends, a.third-ends, length-bytes vs)) in
-    let third = length-pasted (bytes ws) k (pasted (bytes vs) j (pasted (bytes us) i area)) (omega (arith, a.third-ends, length-bytes ws)) in
+    let first = length-pasted (bytes us) i area (omega (arith, a.first_ends, a.second-ends, a.third_ends, length-bytes us)) in
+    let second = length-pasted (bytes vs) j (pasted (bytes us) i area) (omega (arith, a.second-ends, a.third_ends, length-bytes vs)) in
+    let third = length-pasted (bytes ws) k (pasted (bytes vs) j (pasted (bytes us) i area)) (omega (arith, a.third_ends, length-bytes ws)) in
     record { apart = a; place = refl; same = omega arith; made = refl }

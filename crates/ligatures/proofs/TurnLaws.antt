@@ -13,7 +13,7 @@ use Rattle.laws.proofs.PasteLaws.{length-pasted, paste_none}
 use Rattle.words.specs.Words.{bytes, Wrote}
 use Rattle.words.proofs.WordLaws.{length-bytes}
 use Rattle.words.proofs.WroteLaws.{frame, paste_words}
-use Rattle.layouts.specs.Tables.{leader, offsets, joined, rule_words, set_words}
+use Rattle.layouts.specs.Tables.{offsets, joined, rule_words, set_words}
 use Rattle.layouts.specs.Lookups.{fits}
 use Rattle.layouts.proofs.FitLaws.{fits_head, fits-parts}
 use Rattle.layouts.proofs.SizeLaws.{length-offsets}

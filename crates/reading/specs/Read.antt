@@ -3,7 +3,7 @@
 -- Assumes nothing.
 use Rattle.std.specs.Prelude.{◌≡◌, Bool, true, false, not, ◌||◌, List, [], ◌∷◌, ◌++◌, ℕ, ltb, length, drop}
 use denote.Triple.Both.{Both}
-use Rattle.laws.specs.Lent.{Borrowed}
+use Rattle.laws.specs.Lent.{BorrowedMut}
 use Rattle.laws.specs.Rows.{Row, Given, first}
 use Rattle.refusals.specs.Numbers.{number_of}
 use Rattle.refusals.specs.Left.{Left, After, leaves}
@@ -24,7 +24,7 @@ abbrev pub list_of : List ℕ → List ℕ → Columns
 list_of glyphs substitutes = record { glyphs = glyphs; substitutes = substitutes }
 
 -- the columns lent, `.entry`, and those that come back, `.exit`
-abbrev pub list_lent : Borrowed ℕ → Borrowed ℕ → Both Columns Columns
+abbrev pub list_lent : BorrowedMut ℕ → BorrowedMut ℕ → Both Columns Columns
 list_lent glyphs substitutes =
     record {
       entry = list_of glyphs.entry.now substitutes.entry.now;

@@ -1,7 +1,7 @@
 -- Rules, their sets and their columns: rules that begin alike (`Alike`, `leader-alike`, `Led`), as those of a set do (`led_sets`); the rules of their sets are the rules (`flatten_sets`), and rules put together from sets whose first glyphs rise fall into these sets (`sets_flatten`); first glyphs do not fall exactly when those of the sets rise (`leaders_rise`, `firsts-rise`);
 -- rules of sets of n components are of n (`wide_flatten`).
 -- Assumes nothing.
-use mathlib.Core.Path.{◌≡◌, refl, sym, ap, ◌∙◌}
+use mathlib.Core.Path.{◌≡◌, refl, sym, ap, subst, ◌∙◌}
 use mathlib.Core.Bool.{Bool, true, false, cond, ◌&&◌}
 use mathlib.Core.List.{List, [], ◌∷◌, ◌++◌, map, flatten}
 use Prim.Native.Nat.{ℕ, ◌+◌, ◌<◌, ◌≤◌}
@@ -68,7 +68,7 @@ led_sets (r ∷ rs) = go (sets rs) (led_sets rs)
     go (g ∷ gs) k = same (eqb (first r) (leader g)) refl
       where
         same : (t : Bool) → eqb (first r) (leader g) ≡ t → Led (cond t ((r ∷ g) ∷ gs) ((r ∷ []) ∷ g ∷ gs))
-        same true e = (omega arith, (refl, rw (eqb-true (first r) (leader g) e) k.1), k.2)
+        same true e = (omega arith, (refl, subst (λ (x : ℕ). Alike x g) (sym (eqb-true (first r) (leader g) e)) k.1), k.2)
         same false e = (omega arith, (refl, tt), k)
 
 -- ---- sets and all their rules

@@ -1,13 +1,12 @@
 -- A held line and what it stands in: `Letters` the types of letters as they are lent; `Setting` all that a line is joined by; `Line` a line's columns; `letters_of`, `setting_of`, `frame_by`, `line_of`, `manner_of` these from lists;
 -- `letters_now`, `setting_now`, `line_now` from what a call is lent, as a `requires` has it; `setting_lent`, `line_lent` as an `ensures` has it;
--- `SliceMut`, `BorrowedMut`, `line_mut_now`, `line_mut_lent`, `line_all_mut_now`, `line_all_mut_lent` the same where a call may write columns (`&mut`).
+-- `line_mut_now`, `line_mut_lent`, `line_all_mut_now`, `line_all_mut_lent` the same where a call may write columns (`&mut`).
 -- Assumes nothing.
 use Rattle.std.specs.Prelude.{Bool, List, ℕ}
-use Rattle.std.specs.Borrow.{MutBor}
 use denote.Triple.Both.{Both}
 use Rattle.lines.specs.declared.Frame.{Frame}
 use Rattle.lines.specs.declared.Manner.{Manner}
-use Rattle.laws.specs.Lent.{Slice, Borrowed}
+use Rattle.laws.specs.Lent.{Slice, Borrowed, SliceMut, BorrowedMut}
 
 -- letters, by a column of types and its column of categories
 pub record Letters : Type 0 where
@@ -71,13 +70,6 @@ line_lent codes types categories base actions masks =
       entry = line_now codes.entry types.entry categories.entry base.entry actions.entry masks.entry;
       exit = line_now codes.exit types.exit categories.exit base.exit actions.exit masks.exit;
     }
-
--- a slice that a call may write, as `Slice` and `Borrowed` are of one that it only reads
-abbrev pub SliceMut : Type 0 → Type 0
-SliceMut A = MutBor (List A)
-
-abbrev pub BorrowedMut : Type 0 → Type 0
-BorrowedMut A = Both (SliceMut A) (SliceMut A)
 
 -- the line from the parameters of a call that may write its actions and masks, as joining does
 abbrev pub line_mut_now : Slice ℕ → Slice ℕ → Slice ℕ → Slice ℕ → SliceMut ℕ → SliceMut ℕ → Line

@@ -3,8 +3,8 @@
 use mathlib.Core.Path.{◌≡◌, refl}
 use Prim.Native.Nat.{ℕ}
 use lib.IntN.{ℤ}
-use Rattle.laws.specs.Lent.{Borrowed}
-use Rattle.runs.specs.Records.{columns_lent, BorrowedMut, columns_mut_lent}
+use Rattle.laws.specs.Lent.{Borrowed, BorrowedMut}
+use Rattle.runs.specs.Records.{columns_lent, columns_mut_lent}
 
 pub columns-lent :
     (glyphs categories ignorables actions : Borrowed ℕ) (widths advances offsets : Borrowed ℤ)

@@ -1,9 +1,8 @@
--- A line that is stretched: `Record` the numbers of a record; `kept`, `put` those that a copy keeps; `Columns`, `columns` the same of all records, column by column; `columns_now`, `columns_lent` these from the parameters of a call; `SliceMut`, `BorrowedMut`, `columns_mut_now`, `columns_mut_lent` the same of parameters that the call may write (`&mut`); `record_at`, `listed`, `line_of` the records of a line's columns; `columns_of` the columns of records.
+-- A line that is stretched: `Record` the numbers of a record; `kept`, `put` those that a copy keeps; `Columns`, `columns` the same of all records, column by column; `columns_now`, `columns_lent` these from the parameters of a call; `columns_mut_now`, `columns_mut_lent` the same of parameters that the call may write (`&mut`); `record_at`, `listed`, `line_of` the records of a line's columns; `columns_of` the columns of records.
 -- Assumes nothing.
 use Rattle.std.specs.Prelude.{List, [], ◌∷◌, map, ℕ, zero, suc, length, get_or, ℤ, pos}
-use Rattle.std.specs.Borrow.{MutBor}
 use denote.Triple.Both.{Both}
-use Rattle.laws.specs.Lent.{Slice, Borrowed}
+use Rattle.laws.specs.Lent.{Slice, Borrowed, SliceMut, BorrowedMut}
 use Rattle.runs.specs.declared.Tile.{Tile}
 
 -- "The line's columns are glyph, width, category, ignorable, action, advance, offset"
@@ -63,13 +62,7 @@ columns_lent glyphs widths categories ignorables actions advances offsets = reco
   exit = columns_now glyphs.exit widths.exit categories.exit ignorables.exit actions.exit advances.exit offsets.exit;
 }
 
--- a slice that a call may write, as `Slice` and `Borrowed` are of one that it only reads; and the columns from such parameters
-abbrev pub SliceMut : Type 0 → Type 0
-SliceMut A = MutBor (List A)
-
-abbrev pub BorrowedMut : Type 0 → Type 0
-BorrowedMut A = Both (SliceMut A) (SliceMut A)
-
+-- the same, from the parameters of a call that may write them
 abbrev pub columns_mut_now : SliceMut ℕ → SliceMut ℤ → SliceMut ℕ → SliceMut ℕ → SliceMut ℕ → SliceMut ℤ → SliceMut ℤ → Columns
 columns_mut_now glyphs widths categories ignorables actions advances offsets =
     columns glyphs.now widths.now categories.now ignorables.now actions.now advances.now offsets.now

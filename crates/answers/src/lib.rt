@@ -2,7 +2,7 @@
 #![tactic(auto)]
 
 ghost use Rattle.std.specs.Prelude.{◌≡◌, List, ℕ, ◌≤◌, min, length};
-ghost use Rattle.texts.specs.Form.{Close, whole, columns_lent};
+ghost use Rattle.texts.specs.Form.{Close, whole};
 ghost use Rattle.printing.specs.Writing.{Wrote, filled};
 ghost use Rattle.answers.specs.Output.{line_text, output, lines_text, answer_text, Even};
 
@@ -30,7 +30,7 @@ fn line(
     out: &mut [u8],
 ) -> usize
     requires { Even (length types.now) codes.now categories.now base.now actions.old masks.old }
-    ensures { Wrote out.new result ≡ filled out.old (columns_lent line_text codes widths types categories).entry }
+    ensures { Wrote out.new result ≡ filled out.old (line_text codes.now widths.now types.now categories.now) }
 {
     let none = [0u8; 0];
     let verdict = lines::join_line(
@@ -69,7 +69,7 @@ fn lined(
     out: &mut [u8],
 ) -> usize
     requires { (512 ≤ length base.now) × (512 ≤ length actions.old) × (512 ≤ length masks.old) }
-    ensures { Wrote out.new result ≡ filled out.old (columns_lent (lines_text n) codes widths types categories).entry }
+    ensures { Wrote out.new result ≡ filled out.old (lines_text n codes.now widths.now types.now categories.now) }
 {
     let most = shorter(
         LIMIT,
@@ -102,7 +102,7 @@ fn lend(
     categories: &[u8],
     out: &mut [u8],
 ) -> usize
-    ensures { Wrote out.new result ≡ filled out.old (columns_lent (lines_text n) codes widths types categories).entry }
+    ensures { Wrote out.new result ≡ filled out.old (lines_text n codes.now widths.now types.now categories.now) }
 {
     let base = [0u32; 512];
     let mut actions = [0u8; 512];
@@ -130,8 +130,8 @@ pub fn answer(
     categories: &[u8],
     out: &mut [u8],
 ) -> usize
-    ensures columns { Wrote out.new result ≡ filled out.old (columns_lent (answer_text told) codes widths types categories).entry }
-    ensures text { let lent = (columns_lent (Close told) codes widths types categories).entry in
+    ensures columns { Wrote out.new result ≡ filled out.old (answer_text told codes.now widths.now types.now categories.now) }
+    ensures text { let lent = Close told codes.now widths.now types.now categories.now in
         ((text c w t g : List ℕ) → 512 ≤ length c → 512 ≤ length w → 512 ≤ length t → 512 ≤ length g → lent ≡ whole text c w t g → Wrote out.new result ≡ filled out.old (output text)) }
 {
     match told {

@@ -17,9 +17,9 @@ Gives q c ranges d = reorder_after q c ≡ After 0 (reorder_outcome ranges d)
 pub unbroken :
     Gives
     (reorder_request 0 4 25 26)
-    (columns_of (0x064_e ∷ 0x0655 ∷ 0x065_f ∷ 0x0655 ∷ []) (30 ∷ 220 ∷ 220 ∷ 220 ∷ []))
+    (columns_of (0x064E ∷ 0x0655 ∷ 0x065F ∷ 0x0655 ∷ []) (30 ∷ 220 ∷ 220 ∷ 220 ∷ []))
     (Over 0 2 ∷ [])
-    (columns_of (0x0655 ∷ 0x064_e ∷ 0x065_f ∷ 0x0655 ∷ []) (25 ∷ 30 ∷ 220 ∷ 220 ∷ []))
+    (columns_of (0x0655 ∷ 0x064E ∷ 0x065F ∷ 0x0655 ∷ []) (25 ∷ 30 ∷ 220 ∷ 220 ∷ []))
 unfolding modifier smaller moves passes ranges reorder_refusal
 unbroken = refl
 
@@ -29,7 +29,7 @@ unfolding modifier smaller moves passes ranges reorder_refusal
 alone = refl
 
 -- where there is no block there is none
-pub no_block : Gives (reorder_request 0 1 25 26) (columns_of (0x064_e ∷ []) (30 ∷ [])) [] (columns_of (0x064_e ∷ []) (30 ∷ []))
+pub no_block : Gives (reorder_request 0 1 25 26) (columns_of (0x064E ∷ []) (30 ∷ [])) [] (columns_of (0x064E ∷ []) (30 ∷ []))
 unfolding modifier smaller moves passes ranges reorder_refusal
 no_block = refl
 
@@ -37,9 +37,9 @@ no_block = refl
 pub middle :
     Gives
     (reorder_request 1 3 25 26)
-    (columns_of (0x0628 ∷ 0x064_e ∷ 0x0655 ∷ 0x0627 ∷ []) (0 ∷ 30 ∷ 220 ∷ 0 ∷ []))
+    (columns_of (0x0628 ∷ 0x064E ∷ 0x0655 ∷ 0x0627 ∷ []) (0 ∷ 30 ∷ 220 ∷ 0 ∷ []))
     (Over 1 3 ∷ [])
-    (columns_of (0x0628 ∷ 0x0655 ∷ 0x064_e ∷ 0x0627 ∷ []) (0 ∷ 25 ∷ 30 ∷ 0 ∷ []))
+    (columns_of (0x0628 ∷ 0x0655 ∷ 0x064E ∷ 0x0627 ∷ []) (0 ∷ 25 ∷ 30 ∷ 0 ∷ []))
 unfolding modifier smaller moves passes ranges reorder_refusal
 middle = refl
 

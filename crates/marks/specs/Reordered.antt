@@ -56,10 +56,10 @@ marks_lent codes classes =
 
 -- the same where the codes are only read
 abbrev pub classes_lent : Borrowed ℕ → Held → Both Columns Columns
-classes_lent codes classes =
+classes_lent seen classes =
     record {
-      entry = columns_of codes.entry.now classes.entry.now;
-      exit = columns_of codes.exit.now classes.exit.now;
+      entry = columns_of seen.entry.now classes.entry.now;
+      exit = columns_of seen.exit.now classes.exit.now;
     }
 
 abbrev pub reorder_outcome : List Span → Columns → ReorderOutcome

@@ -9,7 +9,7 @@ ghost use Rattle.refusals.specs.Columns.{line_limit};
 ghost use Rattle.blocks.specs.Marks.{mark};
 ghost use Rattle.marks.specs.Modifiers.{modifier};
 ghost use Rattle.marks.specs.Passes.{Over, reorder_classes, new_class_lem, moves, passes, ranges, numbered};
-ghost use Rattle.marks.specs.Reordered.{reorder_request, marks_lent, line, listed, rows_of, number_said, ranges_said, Reordering};
+ghost use Rattle.marks.specs.Reordered.{reorder_request, classes_lent, marks_lent, line, listed, rows_of, number_said, ranges_said, Reordering};
 
 use letters::Code;
 use refusals::{Refusal, Verdict};
@@ -106,8 +106,8 @@ fn moved(code: Code, own: u8, class: u8) -> bool
 fn number_block(codes: &[u32], classes: &mut [u8], i: usize, class: u8, new: u8) -> usize
     requires codes_len { length codes.now ≡ length classes.old }
     requires i_in_bounds { i ≤ length codes.now }
-    ensures ends { result ≡ i + length (front (moves class) (drop i (line (marks_lent codes classes).entry))) }
-    ensures renumbered { let c = marks_lent codes classes in
+    ensures ends { result ≡ i + length (front (moves class) (drop i (line (classes_lent codes classes).entry))) }
+    ensures renumbered { let c = classes_lent codes classes in
         let rest = drop i (line c.entry) in
         line c.exit ≡ take i (line c.entry) ++ (numbered new (front (moves class) rest) ++ behind (moves class) rest) }
 {

@@ -1,4 +1,4 @@
--- The rules that the bytes of a ligature lookup hold, by their places: `rule_at`, `logic_at` those of a set; `starts_at` where the sets begin, `may_have_lem` how many rules they may have; `sets_at`, `end_at` those of all sets, and where the last ends; what scanning these answers (`RuleTaken`, `RulesTaken`, `SetTaken`, whichever glyph they begin with; `leads_at`, `SetsTaken`).
+-- The rules that the bytes of a ligature lookup hold, by their places: `rule_at`, `rules_at` those of a set; `starts_at` where the sets begin, `may_have_lem` how many rules they may have; `sets_at`, `end_at` those of all sets, and where the last ends; what scanning these answers (`RuleTaken`, `RulesTaken`, `SetTaken`, whichever glyph they begin with; `leads_at`, `SetsTaken`).
 -- Assumes nothing.
 use Rattle.std.specs.Prelude.{Bool, ◌&&◌, List, [], ◌∷◌, ◌++◌, ℕ, zero, suc, ◌+◌, ◌-◌, ◌*◌, eqb, leb}
 use Rattle.words.specs.Words.{word_at, words_at}

@@ -1,6 +1,7 @@
 -- Lines that are held by codes and categories alone (document 02, A1): no type is lent, for the line, its contexts or a new letter. `CodedLetters`, `CodedSetting`, `CodedLine`, `CodedRequest` what is lent and asked for; `coded_letters_of`, `coded_line_of`, `coded_request_of`,
 -- `asked_for` these from lists and numbers; `typed_letters`, `typed_setting`, `typed_line`, `typed_request` the same with the types that Unicode lists; `join_codes_after`, `replace_codes_after`, `JoiningCodes`, `ReplacingCodes` the calls: joining and replacing themselves, of these;
--- `length_rows` the refusals that go by lengths alone; `coded_setting_now`, `coded_line_now`, `coded_setting_lent`, `coded_line_lent` from what a call is lent.
+-- `length_rows` the refusals that go by lengths alone; `coded_setting_now`, `coded_line_now`, `coded_setting_lent`, `coded_line_lent` from what a call is lent;
+-- `coded_line_mut_now`, `coded_line_mut_lent`, `coded_line_all_mut_now`, `coded_line_all_mut_lent` the same where a call may write columns (`&mut`).
 -- Assumes nothing.
 use Rattle.std.specs.Prelude.{◌≡◌, Bool, not, ◌&&◌, List, [], ◌∷◌, map, ℕ, eqb, leb}
 use denote.Triple.Both.{Both}
@@ -13,7 +14,7 @@ use Rattle.refusals.specs.Left.{Left, After}
 use Rattle.listed.specs.Rows.{type_in}
 use Rattle.listed.specs.Listed.{listed}
 use Rattle.lines.specs.declared.Manner.{Manner}
-use Rattle.lines.specs.Held.{Letters, Setting, Line, letters_of}
+use Rattle.lines.specs.Held.{Letters, Setting, Line, letters_of, SliceMut, BorrowedMut}
 use Rattle.lines.specs.Joined.{context_limit, join_after}
 use Rattle.replacing.specs.Replaced.{Request, request_of, replace_after}
 use Rattle.coded.specs.declared.CodeRequest.{CodeRequest}
@@ -116,4 +117,26 @@ coded_line_lent codes categories base actions masks =
     record {
       entry = coded_line_now codes.entry categories.entry base.entry actions.entry masks.entry;
       exit = coded_line_now codes.exit categories.exit base.exit actions.exit masks.exit;
+    }
+
+-- the line from the parameters of a call that may write its actions and masks, as joining does
+abbrev pub coded_line_mut_now : Slice ℕ → Slice ℕ → Slice ℕ → SliceMut ℕ → SliceMut ℕ → CodedLine
+coded_line_mut_now codes categories base actions masks = coded_line_of codes.now categories.now base.now actions.now masks.now
+
+abbrev pub coded_line_mut_lent : Borrowed ℕ → Borrowed ℕ → Borrowed ℕ → BorrowedMut ℕ → BorrowedMut ℕ → Both CodedLine CodedLine
+coded_line_mut_lent codes categories base actions masks =
+    record {
+      entry = coded_line_mut_now codes.entry categories.entry base.entry actions.entry masks.entry;
+      exit = coded_line_mut_now codes.exit categories.exit base.exit actions.exit masks.exit;
+    }
+
+-- and of one that may write its codes and categories as well, as replacing does
+abbrev pub coded_line_all_mut_now : SliceMut ℕ → SliceMut ℕ → Slice ℕ → SliceMut ℕ → SliceMut ℕ → CodedLine
+coded_line_all_mut_now codes categories base actions masks = coded_line_of codes.now categories.now base.now actions.now masks.now
+
+abbrev pub coded_line_all_mut_lent : BorrowedMut ℕ → BorrowedMut ℕ → Borrowed ℕ → BorrowedMut ℕ → BorrowedMut ℕ → Both CodedLine CodedLine
+coded_line_all_mut_lent codes categories base actions masks =
+    record {
+      entry = coded_line_all_mut_now codes.entry categories.entry base.entry actions.entry masks.entry;
+      exit = coded_line_all_mut_now codes.exit categories.exit base.exit actions.exit masks.exit;
     }

@@ -7,7 +7,7 @@ ghost use Rattle.laws.specs.Rows.{first};
 ghost use Rattle.refusals.specs.Numbers.{said};
 ghost use Rattle.listed.specs.Rows.{type_in};
 ghost use Rattle.listed.specs.Listed.{listed};
-ghost use Rattle.coded.specs.Coded.{asked_for, length_rows, coded_setting_lent, coded_line_lent, JoiningCodes, ReplacingCodes};
+ghost use Rattle.coded.specs.Coded.{asked_for, length_rows, coded_setting_lent, coded_line_mut_lent, coded_line_all_mut_lent, JoiningCodes, ReplacingCodes};
 
 use letters::{Category, Code};
 use lines::Manner;
@@ -79,7 +79,7 @@ fn join_typed(
 ) -> Verdict
     requires { (length codes.now ≤ length types.old) × (length pre_codes.now ≤ length pre_types.old) × (length post_codes.now ≤ length post_types.old) }
     ensures { let s = coded_setting_lent pre_codes pre_categories post_codes post_categories manner in
-        let l = coded_line_lent codes categories base actions masks in
+        let l = coded_line_mut_lent codes categories base actions masks in
         JoiningCodes s l.entry result l.exit }
 {
     let own = typed(codes, types);
@@ -114,7 +114,7 @@ pub fn join_codes(
     masks: &mut [u32],
 ) -> Verdict
     ensures { let s = coded_setting_lent pre_codes pre_categories post_codes post_categories manner in
-        let l = coded_line_lent codes categories base actions masks in
+        let l = coded_line_mut_lent codes categories base actions masks in
         JoiningCodes s l.entry result l.exit }
 {
     let verdict = measured(
@@ -188,7 +188,7 @@ fn replace_typed(
 ) -> Verdict
     requires { (length codes.old ≤ length types.old) × (length pre_codes.now ≤ length pre_types.old) × (length post_codes.now ≤ length post_types.old) }
     ensures { let s = coded_setting_lent pre_codes pre_categories post_codes post_categories manner in
-        let l = coded_line_lent codes categories base actions masks in
+        let l = coded_line_all_mut_lent codes categories base actions masks in
         ReplacingCodes s (asked_for request) l.entry result l.exit }
 {
     let held = typed(codes, types);
@@ -234,7 +234,7 @@ pub fn replace_code(
     request: CodeRequest,
 ) -> Verdict
     ensures { let s = coded_setting_lent pre_codes pre_categories post_codes post_categories manner in
-        let l = coded_line_lent codes categories base actions masks in
+        let l = coded_line_all_mut_lent codes categories base actions masks in
         ReplacingCodes s (asked_for request) l.entry result l.exit }
 {
     let lengths = measured(

@@ -3,7 +3,6 @@
 use mathlib.Core.Path.{ap, ◌∙◌}
 use Rattle.printing.specs.Writing.{filled}
 use Rattle.answers.proofs.AnswerLaws.{line-accepted, line_refused}
-use borrow.Author.Rules.{rules}
 use Rattle.answers.proofs.line.Goals as goal
 
 pub returns-then-k-ne0 : goal.returns-then-k-ne0

@@ -7,7 +7,6 @@ use lib.Seq.{length-take-le}
 use borrow.Author.Tests.{le-leb, lt-leb}
 use Rattle.answers.specs.Output.{room, lines_text}
 use Rattle.answers.proofs.AnswerLaws.{Holds, room-holds, even-front}
-use borrow.Author.Rules.{rules}
 use Rattle.answers.proofs.lined.Goals as goal
 use Rattle.answers.proofs.lined.Goals.{After-shorter-most, Then-n-most}
 
@@ -17,12 +16,15 @@ roomy c =
     rw (c.shorter-most.ensures, c.shorter-3.ensures, c.shorter-2.ensures, c.shorter.ensures)
 
 few : (c : Then-n-most) → let a = c.args in a.n ≤ room a.codes.now a.widths.now a.types.now a.categories.now
-few c = rw (← (roomy (search))) c.if-n-most.true
+few c =
+    let a = c.args in
+    let r : c.shorter-most.result ≡ room a.codes.now a.widths.now a.types.now a.categories.now = rw (c.shorter-most.ensures, c.shorter-3.ensures, c.shorter-2.ensures, c.shorter.ensures) in
+    rw (← r) c.if-n-most.true
 
 holds : (c : Then-n-most) → let a = c.args in Holds a.n a.codes.now a.widths.now a.types.now a.categories.now
 holds c =
     let a = c.args in
-    room-holds a.n a.codes.now a.widths.now a.types.now a.categories.now (few (search))
+    room-holds a.n a.codes.now a.widths.now a.types.now a.categories.now (few c)
 
 pub slice_bounds-line-end : goal.slice_bounds-line-end
 slice_bounds-line-end c =

@@ -6,7 +6,7 @@
 use Rattle.std.specs.Prelude.{◌≡◌, Bool, not, ◌&&◌, List, [], ◌∷◌, map, ℕ, eqb, leb}
 use denote.Triple.Both.{Both}
 use Rattle.laws.specs.Rows.{Row, Given}
-use Rattle.laws.specs.Lent.{Slice, Borrowed}
+use Rattle.laws.specs.Lent.{Slice, Borrowed, SliceMut, BorrowedMut}
 use Rattle.refusals.specs.declared.Verdict.{Verdict}
 use Rattle.refusals.specs.Numbers.{said}
 use Rattle.refusals.specs.Columns.{line_limit}
@@ -14,7 +14,7 @@ use Rattle.refusals.specs.Left.{Left, After}
 use Rattle.listed.specs.Rows.{type_in}
 use Rattle.listed.specs.Listed.{listed}
 use Rattle.lines.specs.declared.Manner.{Manner}
-use Rattle.lines.specs.Held.{Letters, Setting, Line, letters_of, SliceMut, BorrowedMut}
+use Rattle.lines.specs.Held.{Letters, Setting, Line, letters_of}
 use Rattle.lines.specs.Joined.{context_limit, join_after}
 use Rattle.replacing.specs.Replaced.{Request, request_of, replace_after}
 use Rattle.coded.specs.declared.CodeRequest.{CodeRequest}

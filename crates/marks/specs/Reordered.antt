@@ -1,12 +1,11 @@
--- The call that reorders marks: `ReorderRequest` what is asked for; `Columns` what is lent; `reorder_request`, `columns_of` these from a call's parameters, `Held`, `marks_lent` as an `ensures` has them, `classes_lent` where only the classes may be written; `ReorderOutcome`, `reorder_outcome` what is there afterwards; `line`, `part`, `new_part`, `new_line`, `reordered`, `ranges_of` what reordering
+-- The call that reorders marks: `ReorderRequest` what is asked for; `Columns` what is lent; `reorder_request`, `columns_of` these from a call's parameters, `marks_lent` as an `ensures` has them, `classes_lent` where only the classes may be written; `ReorderOutcome`, `reorder_outcome` what is there afterwards; `line`, `part`, `new_part`, `new_line`, `reordered`, `ranges_of` what reordering
 -- gives; `rows_of`, `reorder_rows`, `reorder_refusal` when it is refused, and with which number; `span`, `listed`, `number_said`, `ranges_said` what an answer says; `reorder_after`, `Reordering` what the call answers
 -- and leaves, of every input.
 -- Assumes nothing.
 use Rattle.std.specs.Prelude.{◌≡◌, not, ◌||◌, List, [], ◌∷◌, ◌++◌, ℕ, eqb, ltb, length, take, drop}
 use Rattle.std.proofs.Math.Seq.{slice}
 use denote.Triple.Both.{Both}
-use Rattle.std.specs.Borrow.{MutBor}
-use Rattle.laws.specs.Lent.{Borrowed}
+use Rattle.laws.specs.Lent.{Borrowed, BorrowedMut}
 use Rattle.laws.specs.Rows.{Row, Given, first}
 use Rattle.refusals.specs.Numbers.{number_of}
 use Rattle.refusals.specs.Columns.{line_limit}
@@ -42,12 +41,8 @@ reorder_request start end low high = record { start = start; end = end; low = lo
 abbrev pub columns_of : List ℕ → List ℕ → Columns
 columns_of codes classes = record { codes = codes; classes = classes }
 
--- a slice that a call may write, as an `ensures` has it: what was lent, `.entry`, and what comes back, `.exit`
-abbrev pub Held : Type 0
-Held = Both (MutBor (List ℕ)) (MutBor (List ℕ))
-
 -- the columns lent, `.entry`, and those that come back, `.exit`
-abbrev pub marks_lent : Held → Held → Both Columns Columns
+abbrev pub marks_lent : BorrowedMut ℕ → BorrowedMut ℕ → Both Columns Columns
 marks_lent codes classes =
     record {
       entry = columns_of codes.entry.now classes.entry.now;
@@ -55,7 +50,7 @@ marks_lent codes classes =
     }
 
 -- the same where the codes are only read
-abbrev pub classes_lent : Borrowed ℕ → Held → Both Columns Columns
+abbrev pub classes_lent : Borrowed ℕ → BorrowedMut ℕ → Both Columns Columns
 classes_lent seen classes =
     record {
       entry = columns_of seen.entry.now classes.entry.now;

@@ -5,7 +5,11 @@
 #![tactic(auto)]
 
 use entries::State;
-use libc::{STDIN_FILENO, STDOUT_FILENO};
+
+// The file descriptors that a program starts with.
+const STDIN_FILENO: i32 = 0;
+
+const STDOUT_FILENO: i32 = 1;
 
 // Reads the input to its end, a piece at a time. That it ends is not known, so that the pieces are counted.
 fn read(codes: &mut [u32], widths: &mut [u8], types: &mut [u8], categories: &mut [u8]) -> State {

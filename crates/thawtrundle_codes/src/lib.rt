@@ -9,7 +9,7 @@ ghost use Rattle.std.specs.Prelude.{◌≡◌};
 ghost use Rattle.refusals.specs.Left.{After};
 ghost use Rattle.listed.specs.Rows.{type_in};
 ghost use Rattle.listed.specs.Listed.{listed};
-ghost use Rattle.coded.specs.Coded.{coded_request_of, typed_line, join_codes_after, replace_codes_after, coded_line_lent};
+ghost use Rattle.coded.specs.Coded.{coded_request_of, typed_line, join_codes_after, replace_codes_after, coded_line_mut_lent, coded_line_all_mut_lent};
 ghost use Rattle.thawtrundle_codes.specs.Asked.{setting_asked};
 
 use coded::CodeRequest;
@@ -41,7 +41,7 @@ pub extern "C" fn tt_join_codes(
     masks: &mut [u32],
 ) -> u8
     ensures { let s = setting_asked pre_codes pre_categories post_codes post_categories features mongolian in
-        let l = coded_line_lent codes categories base actions masks in
+        let l = coded_line_mut_lent codes categories base actions masks in
         After result (typed_line l.exit) ≡ join_codes_after s l.entry }
 {
     let features = *features;
@@ -83,7 +83,7 @@ pub extern "C" fn tt_replace_code(
 ) -> u8
     ensures { let s = setting_asked pre_codes pre_categories post_codes post_categories features mongolian in
         let q = coded_request_of place code category in
-        let l = coded_line_lent codes categories base actions masks in
+        let l = coded_line_all_mut_lent codes categories base actions masks in
         After result (typed_line l.exit) ≡ replace_codes_after s q l.entry }
 {
     let features = *features;

@@ -117,7 +117,7 @@ unlisted-by-category l j h k none =
 
 -- ---- demand 2
 pub codes-by_neighbours : CodesByNeighbours
-codes-by_neighbours s l r m = joining.by-neighbours (typed_setting s) (typed_line l) r (typed_line m)
+codes-by_neighbours s l r m = joining.by_neighbours (typed_setting s) (typed_line l) r (typed_line m)
 
 -- the letter that a record is, by its code and its category
 own-letter :
@@ -144,7 +144,7 @@ joins_as_listed s l r m e z j h free row among held =
     (a, b, subst (λ (u : ℕ). Joined (typed_setting s) (typed_line l) j a u b) same p, formed ∙ ap (λ (u : ℕ). form a u b) same)
 
 pub codes-unicode : CodesUnicode
-codes-unicode s l r m = joining.unicode-call (typed_setting s) (typed_line l) r (typed_line m)
+codes-unicode s l r m = joining.unicode_call (typed_setting s) (typed_line l) r (typed_line m)
 
 pub codes-masks : CodesMasks
 codes-masks s l r m = joining.mask-of-action (typed_setting s) (typed_line l) r (typed_line m)
@@ -156,7 +156,7 @@ codes_write_forms s l r m e z =
 
 -- ---- demand 3
 pub codes-fresh_current : CodesFreshCurrent
-codes-fresh_current s l r m = replacing.fresh-current (typed_setting s) (typed_line l) r (typed_line m)
+codes-fresh_current s l r m = replacing.fresh_current (typed_setting s) (typed_line l) r (typed_line m)
 
 after-all : (s : CodedSetting) (all : List CodedRequest) (l m : CodedLine) → AfterAllCodes s all l m → AfterAll (typed_setting s) (map typed_request all) (typed_line l) (typed_line m)
 after-all s [] l m e = ap typed_line e
@@ -164,7 +164,7 @@ after-all s (q ∷ all) l m (r, k, e, on) = (r, typed_line k, e, after-all s all
 
 pub codes_always_current : CodesAlwaysCurrent
 codes_always_current s l r k all m e z on =
-    replacing.always-current (typed_setting s) (typed_line l) r (typed_line k) (map typed_request all) (typed_line m) e z (after-all s all k m on)
+    replacing.always_current (typed_setting s) (typed_line l) r (typed_line k) (map typed_request all) (typed_line m) e z (after-all s all k m on)
 
 pub codes_join_to_themselves : CodesJoinToThemselves
 codes_join_to_themselves s l r k all m e z on u n f =
@@ -175,7 +175,7 @@ pub codes_alter_near : CodesAlterNear
 codes_alter_near s q l r m = replacing.alters-near (typed_setting s) (typed_request q) (typed_line l) r (typed_line m)
 
 pub codes_get_fresh : CodesGetFresh
-codes_get_fresh s q l r m = replacing.gets-fresh (typed_setting s) (typed_request q) (typed_line l) r (typed_line m)
+codes_get_fresh s q l r m = replacing.gets_fresh (typed_setting s) (typed_request q) (typed_line l) r (typed_line m)
 
 pub codes_change_letter : CodesChangeLetter
 codes_change_letter s q l r m e z =

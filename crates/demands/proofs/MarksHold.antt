@@ -88,4 +88,4 @@ pub changes-merged : ChangesMerged
 changes-merged q c (Reordered m) d x p h =
     let e = ranges-left q c (Reordered m) d x refl in
     rw (columns-left q c (Reordered m) d x refl) (columns-outside q c (accepted q c (Reordered m) d x refl) p (λ u. h (rw e u)))
-changes-merged q c (Refused k) d x p h = rw (promised.refused-stays q c (Refused k) d x (refused_number k)).0 (refl, refl)
+changes-merged q c (Refused k) d x p h = rw (promised.refused_stays q c (Refused k) d x (refused_number k)).0 (refl, refl)

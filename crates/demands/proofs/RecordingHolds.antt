@@ -107,7 +107,7 @@ only-multiplied q actions r left x i p =
     by_zero q.mask
     (λ e. rw (unmasked q actions r left x z e).1)
     (λ d. rw (masked q actions r left x z d).1 (new-action-plain q.multiplied q.components actions a.even a.even-actions i p)))
-    (λ d. rw (promised.refused-stays q actions r left x d).0)
+    (λ d. rw (promised.refused_stays q actions r left x d).0)
 
 pub by_parity : ByParity
 by_parity q actions r left x z d i m =
@@ -133,4 +133,4 @@ nothing_happens q actions r left x n =
     (λ d.
     let g = masked q actions r left x z d in
     g.1 ∙ none-multiplied q.multiplied q.components actions a.even a.even-actions (sym g.0 ∙ n)))
-    (λ d. (promised.refused-stays q actions r left x d).0)
+    (λ d. (promised.refused_stays q actions r left x d).0)

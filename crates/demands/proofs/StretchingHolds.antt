@@ -50,7 +50,7 @@ module _ (q : StretchRequest) (output : Columns) (r : Answer) (left : Columns) (
 
   past_refused : (number_said r ≡ 0 → ⊥) → AllPast (length_said r) left
   past_refused d =
-      rw (promised.refused-stays q output r left x d).0
+      rw (promised.refused_stays q output r left x d).0
       (past_same _ _, past_same _ _, past_same _ _, past_same _ _, past_same _ _, past_same _ _, past_same _ _)
 
   module _ (z : number_said r ≡ 0) where

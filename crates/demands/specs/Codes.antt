@@ -19,7 +19,6 @@ use Rattle.coded.specs.Coded.{CodedLetters, CodedSetting, CodedLine, CodedReques
 use Rattle.demands.specs.Neighbours.{in_the_end, letters_of, text}
 use Rattle.demands.specs.Joining.{Follows, Joined, feature_of}
 use Rattle.demands.specs.Replacing.{Current, OthersKept, Renewed}
-use Rattle.demands.specs.Examples.{features}
 
 -- What every call promises, of these two: one answer; a refusal alters nothing; the smallest number that applies is given, by the rows of joining and of replacing.
 abbrev pub JoinPromised : Type 0

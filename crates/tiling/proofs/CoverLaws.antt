@@ -165,10 +165,10 @@ reckoned room w t some = go (le_z room w) refl
         (1, 0, loose room w (suc k) 1 (fit-one room w z e (suc k) h) (not-twice room w z e) (covers-once room w (suc k) z e h))
 
     above : (r v : ℕ) → Above room w r v → (c : ℕ) × (o : ℕ) × Reckoned room w t c o
-    above r v a = rw (a.room-is, a.w-is) (by (r % v) refl)
+    above r v a = rw (a.room-is, a.w_is) (by (r % v) refl)
       where
         tiled : 0 < t
-        tiled = some (rw a.w-is (record { lt = lt→ltb 0 v a.some }))
+        tiled = some (rw a.w_is (record { lt = lt→ltb 0 v a.some }))
 
         by : (m : ℕ) → r % v ≡ m → (c : ℕ) × (o : ℕ) × Reckoned (pos r) (pos v) t c o
         by zero m = (r / v - 1, 0, even r v t a.some a.less m)

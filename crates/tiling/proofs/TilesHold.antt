@@ -48,7 +48,7 @@ named l c o v k =
 copies-named : (l : List Record) (c : ℕ) → Copied l c → copies_of l ≡ c
 copies-named l c v =
     let n = run-reckoned l in
-    n.2.copies-are ∙ covers_one (room l) (repeating_width l) (tiles l) c n.0 v n.2.covers
+    n.2.copies_are ∙ covers_one (room l) (repeating_width l) (tiles l) c n.0 v n.2.covers
 
 added-named : (l : List Record) (copies : ℕ → ℕ) → Numbered l copies → (i : ℕ) → added_here l i ≡ added_at l copies i
 added-named l copies h i = go (begins l i) refl
@@ -129,7 +129,7 @@ tiles_stand q output r left x z e copies h i b o k =
     let l = drop i w in
     let n : Run l (copies i) o = named l (copies i) o (h i b) k in
     let same : placed_run q.rtl l ≡ placed q.rtl (start_of l) (run_pieces (copies i) (pos o) (run l)) =
-    ap₂ (λ (c : ℕ) (v : ℤ). placed q.rtl (start_of l) (run_pieces c v (run l))) n.copies-are n.overlap-is
+    ap₂ (λ (c : ℕ) (v : ℤ). placed q.rtl (start_of l) (run_pieces c v (run l))) n.copies_are n.overlap-is
     in
     rw n.start_is at
     (run-stands q.rtl (length (run l)) (copies i) o (start_of l) (run l) _ _ refl (run-some l (tile-first w i b)) (line-comes q.rtl q.line i)

@@ -15,7 +15,7 @@ use Rattle.drafts.specs.Entries.{Entry}
 use Rattle.windows.specs.Windows.{direct}
 use Rattle.fallback.specs.declared.FallbackPlan.{FallbackPlan}
 use Rattle.fallback.specs.Plan.{Inputs, unicode, plan}
-use Rattle.fallback.specs.Planned.{flat_by, even, Planning}
+use Rattle.fallback.specs.Planned.{flat_by, Planning}
 use Rattle.assurance.specs.Planning.{Says}
 use Rattle.assurance.specs.ByRows.{seven_lists, OfRows, OfLists, AsTheRows, EveryPlaceHasRows, WindowsWithoutRows}
 use Rattle.assurance.proofs.OriginLaws.{unicode-kept}

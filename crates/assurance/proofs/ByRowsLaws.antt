@@ -160,11 +160,13 @@ mem_insert a x (y ∷ l) m = go (leb (key_of x) (key_of y)) m (mem_insert a x l)
 
 mem_sorted : (a : Numbered) (l : List Numbered) → Memᴰ a l → Memᴰ a (sorted key_of l)
 unfolding sorted
+mem_sorted a [] x' = elim x' [ ]
 mem_sorted a (x ∷ l) (Memᴰ.head e) = mem_insert a x (sorted key_of l) (Memᴰ.head e)
 mem_sorted a (x ∷ l) (Memᴰ.tail m) = mem_insert a x (sorted key_of l) (Memᴰ.tail (mem_sorted a l m))
 
 -- by places
 mem_at : (a d : Numbered) (l : List Numbered) → Memᴰ a l → (p : ℕ) × (p < length l) × (get_or l p d ≡ a)
+mem_at a d [] x' = elim x' [ ]
 mem_at a d (x ∷ l) (Memᴰ.head e) = (0, omega arith, sym e)
 mem_at a d (x ∷ l) (Memᴰ.tail m) =
     let r = mem_at a d l m in
@@ -431,6 +433,7 @@ of-lists f s (l ∷ ls) p = go (eqb l.mask 0) (eqb (length rs) 0) refl refl (of-
 
 -- what is known of them: there are some exactly if a list is used, and each is of one that is
 pub used-some : (f : Font) (ls : List Lent) (es : List Entry) → OfLists f ls es → (l : Lent) → Memᴰ l ls → Used f l → 0 < length es
+used-some f _ _ end l m v = elim m [ ]
 used-some f ls es (used u o r) l m v = omega arith
 used-some f (x ∷ ls) es (unused n r) l (Memᴰ.head e) v = absurd (n (subst (Used f) e v))
 used-some f (x ∷ ls) es (unused n r) l (Memᴰ.tail m) v = used-some f ls es r l m v

@@ -126,7 +126,7 @@ module _ (o : Origin) (q : Ready o) where
   made-good os m d =
       let b = kind-bounds o.kind q.named in
       record {
-        readable = record { even = written.even; named = written.in-range; fit = written.small; up = ap (rising 0) (firsts-listed o.kind rs sound) ∙ (sorted_stable first o.rules).ordered };
+        readable = record { even = written.even; named = written.in_range; fit = written.small; up = ap (rising 0) (firsts-listed o.kind rs sound) ∙ (sorted_stable first o.rules).ordered };
         short = omega (arith, written.enough, b.0);
         same = same_read (made_of o).lookup (λ z. d (sym (length-map rs (λ (r : Rule). r.ligature)) ∙ z));
         glyphs = omega (arith, columns-even, mul-le-mul_right n few, b.1);

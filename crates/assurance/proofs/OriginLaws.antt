@@ -12,7 +12,7 @@ use Rattle.laws.proofs.TestLaws.{both}
 use Rattle.layouts.specs.declared.Kind.{Kind}
 use Rattle.layouts.specs.declared.Kind.TheVariants.{Single, Ligature}
 use Rattle.layouts.specs.Tables.{Rule, first}
-use Rattle.layouts.specs.Lookups.{width, known, ligatures, listed, fits}
+use Rattle.layouts.specs.Lookups.{width, known, listed, fits}
 use Rattle.layouts.proofs.SetLaws.{Wide}
 use Rattle.ordering.proofs.KeyLaws.{Each}
 use Rattle.ordering.proofs.OrderLaws.{sorted-same}

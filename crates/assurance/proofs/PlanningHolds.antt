@@ -98,7 +98,7 @@ module _ (i : Inputs) (area : List ℕ) (r : FallbackPlan) (left : List ℕ) (x 
 
       off : (said r.verdict ≡ 0 → ⊥) → (r.count ≤ 7) × (length r.masks ≡ 7) × (length r.lengths ≡ 7)
       off d =
-          let s = (promised.refused-stays i area r left x d).1 in
+          let s = (promised.refused_stays i area r left x d).1 in
           (omega (arith, s.0), ap length s.1, ap length s.2)
 
   past : Past (total r.lengths) area left
@@ -110,7 +110,7 @@ module _ (i : Inputs) (area : List ℕ) (r : FallbackPlan) (left : List ℕ) (x 
           (ap total (plans i area r left x z).measured ∙ total-lengths (plan i))
 
       off : (said r.verdict ≡ 0 → ⊥) → Past (total r.lengths) area left
-      off d = rw (promised.refused-stays i area r left x d).0 (past_same (total r.lengths) area)
+      off d = rw (promised.refused_stays i area r left x d).0 (past_same (total r.lengths) area)
 
 pub at-most-seven : AtMostSeven
 at-most-seven = few-said

@@ -87,7 +87,7 @@ module _ (b : List ℕ) (c : Columns) (r : Answer) (left : Columns) (x : Reading
 -- ---- what the writer gives
 module _ (l : Lookup) where
   readable : (room : ℕ) → Allowed l room → rising 0 (firsts l) ≡ true → Readable l
-  readable room a up = record { even = a.even; named = a.in-range; fit = a.small; up = up }
+  readable room a up = record { even = a.even; named = a.in_range; fit = a.small; up = up }
 
   allowed : (room : ℕ) → Readable l → 2 * length (words_of l) ≤ room → Allowed l room
   allowed room q h = record { even = q.even; in_range = q.named; small = q.fit; enough = h }
@@ -219,7 +219,7 @@ past_the_answer b h c r left x = go (read_number r) refl
   where
     go : (n : ℕ) → read_number r ≡ n → Past (glyphs_said r) c.glyphs left.glyphs × Past (count_said r) c.substitutes left.substitutes
     go zero e = (past-glyphs b h c r left x e, past-substitutes b h c r left x e)
-    go (suc n) e = rw (promised.refused-stays b c r left x (λ z. omega (arith, e, z))).0 (past_same (glyphs_said r) c.glyphs, past_same (count_said r) c.substitutes)
+    go (suc n) e = rw (promised.refused_stays b c r left x (λ z. omega (arith, e, z))).0 (past_same (glyphs_said r) c.glyphs, past_same (count_said r) c.substitutes)
 
 -- ---- an empty list of ligatures
 after-alike : (flags : ℕ) (area : List ℕ) → write_after (lookup_of flags (Ligature 3) [] []) area ≡ write_after (lookup_of flags (Ligature 2) [] []) area

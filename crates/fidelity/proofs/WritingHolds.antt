@@ -78,7 +78,7 @@ past_the_answer l area r left x = go (write_number r) refl
   where
     go : (n : ℕ) → write_number r ≡ n → Past (length_said r) area left
     go zero e = past l area r left x e
-    go (suc n) e = rw (promised.refused-stays l area r left x (λ z. omega (arith, e, z))).0 (past_same (length_said r) area)
+    go (suc n) e = rw (promised.refused_stays l area r left x (λ z. omega (arith, e, z))).0 (past_same (length_said r) area)
 
 -- ---- of each kind
 low : (n : ℕ) → (n ≡ 2) ⊎ (n ≡ 3) → 0 < n
@@ -96,7 +96,7 @@ size-of (Ligature n) flags components ligatures even named =
 pub size : Size
 size l area r left x z =
     let a = accepted l area r left x z in
-    length-left l area r left x z ∙ size-of l.kind l.flags l.glyphs l.substitutes a.even a.in-range
+    length-left l area r left x z ∙ size-of l.kind l.flags l.glyphs l.substitutes a.even a.in_range
 
 -- ---- from which number on 5 is given
 offset-from : (l : Lookup) (most : ℕ) → Even l → known l.kind ≡ true → fits (words_of l) ≡ leb (length l.substitutes) most → OffsetFrom most l
@@ -201,4 +201,4 @@ covered l area r left x z = covered_of left l.kind l.flags l.glyphs l.substitute
 pub every-offset : EveryOffset
 every-offset l area r left x z =
     let a = accepted l area r left x z in
-    followed_of left l.kind l.flags l.glyphs l.substitutes a.even a.in-range (words_left l area r left x z)
+    followed_of left l.kind l.flags l.glyphs l.substitutes a.even a.in_range (words_left l area r left x z)

@@ -3,7 +3,7 @@
 use mathlib.Core.Path.{◌≡◌, refl}
 use mathlib.Core.List.{List}
 use Prim.Native.Nat.{ℕ}
-use Rattle.laws.specs.Lent.{Borrowed}
+use Rattle.laws.specs.Lent.{Borrowed, BorrowedMut}
 use Rattle.layouts.specs.declared.Kind.{Kind}
 use Rattle.layouts.specs.declared.Written.{Written}
 use Rattle.layouts.specs.Lookups.{lookup_of, lookup_lent}
@@ -17,7 +17,7 @@ pub writing :
 writing flags kind glyphs substitutes area left r = refl
 
 pub reading :
-    (b : List ℕ) (glyphs substitutes : Borrowed ℕ) (r : Answer)
+    (b : List ℕ) (glyphs substitutes : BorrowedMut ℕ) (r : Answer)
     → (let c = list_lent glyphs substitutes in Reading b c.entry r c.exit)
     ≡ Reading b (list_of glyphs.entry.now substitutes.entry.now) r (list_of glyphs.exit.now substitutes.exit.now)
 reading b glyphs substitutes r = refl

@@ -1,0 +1,10 @@
+-- `adding::kind_of` meets its contract.
+-- Assumes nothing.
+use borrow.Author.Tests.{eq-eqb, ne_eqb}
+use Rattle.adding.proofs.kind_of.Goals as goal
+
+pub returns-then-n-eq1 : goal.returns-then-n-eq1
+returns-then-n-eq1 c = rw (eq-eqb _ 1 c.if-n-eq1.true)
+
+pub returns : goal.returns
+returns c = rw (ne_eqb _ 1 c.if-n-eq1.false)

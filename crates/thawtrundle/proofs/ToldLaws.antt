@@ -1,4 +1,4 @@
--- What is handed on, as the call inside says it: `handed` its number; `handed_with` a number and an answer beside what is left; `reordered_as`, `unmoved_as` those of reordered marks, and of marks that are not; `read_as`, `unread_as` those of a lookup that is read, and of one that is not.
+-- What is handed on, as the call inside says it: `handed` its number; `handed_with` a number and an answer beside what is left; `reordered_as`, `unmoved_as` those of reordered marks, and of marks that are not; `read_as_lem`, `unread_as` those of a lookup that is read, and of one that is not.
 -- Assumes nothing.
 use mathlib.Core.Path.{◌≡◌, ap, ap₂, ◌∙◌}
 use mathlib.Core.List.{List, [], ◌∷◌}
@@ -33,10 +33,10 @@ module _ (r : Marked) (d : marks.Columns) {x : Left marks.ReorderOutcome} (j : A
 
 -- a lookup
 module _ (r : Answer) (c : Columns) {x : Left ReadOutcome} (j : After (read_number r) (outcome_said r c) ≡ x) where
-  pub read_as :
+  pub read_as_lem :
       (l : Lookup) {t n : ℕ} → r ≡ Read l → t ≡ type_of l.kind → n ≡ components_of_lem l.kind
       → After 0 (read_as t n l.flags l.len c) ≡ x
-  read_as l e f g = rw (f, g) (rw e at j)
+  read_as_lem l e f g = rw (f, g) (rw e at j)
 
   pub unread_as : (k : Refusal) {n : ℕ} → r ≡ Refused k → n ≡ number_of k → After n (read_as 0 0 0 0 c) ≡ x
   unread_as k e f = rw f (rw e at j)

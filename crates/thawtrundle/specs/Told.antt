@@ -2,9 +2,9 @@
 -- `seen` what a call leaves, told so; `line_asked`, `line_told` a line to be stretched, and the length with the output; `read_as` a lookup as read, number by number; `plan_told` a plan; `needs_of` what a font leaves to the fallback.
 -- Assumes nothing.
 use Rattle.std.specs.Prelude.{Bool, List, [], ◌∷◌, ℕ, length}
-use Rattle.std.specs.Borrow.{Bor}
+use Rattle.std.specs.Borrow.{MutBor}
 use denote.Triple.Both.{Both}
-use Rattle.laws.specs.Lent.{Borrowed}
+use Rattle.laws.specs.Lent.{Borrowed, BorrowedMut}
 use Rattle.refusals.specs.Columns.{yes}
 use Rattle.refusals.specs.Left.{Left, After}
 use Rattle.lines.specs.declared.Manner.{Manner}
@@ -19,7 +19,7 @@ use Rattle.fallback.specs.Planned.{PlanOutcome, plan_outcome}
 
 -- a number that is lent
 abbrev Lent : Type 0
-Lent = Both (Bor ℕ) (Bor ℕ)
+Lent = Both (MutBor ℕ) (MutBor ℕ)
 
 -- how a line is joined, from seven masks and a byte; other than 0 it is a yes
 abbrev pub manner_lent : Borrowed ℕ → ℕ → Manner
@@ -60,7 +60,7 @@ abbrev pub read_as : ℕ → ℕ → ℕ → ℕ → reading.Columns → reading
 read_as type components flags count list = record { type = type; components = components; flags = flags; count = count; list = list }
 
 -- how many entries a plan has, their masks and lengths, and the area, all as they come back
-abbrev pub plan_told : Lent → Borrowed ℕ → Borrowed ℕ → Borrowed ℕ → PlanOutcome
+abbrev pub plan_told : Lent → BorrowedMut ℕ → BorrowedMut ℕ → BorrowedMut ℕ → PlanOutcome
 plan_told count masks lengths area = plan_outcome count.exit.now masks.exit.now lengths.exit.now area.exit.now
 
 abbrev pub needs_of : Bool → Bool → Bool → Bool → Needs

@@ -7,12 +7,12 @@
 ghost use Rattle.std.specs.Prelude.{◌≡◌};
 ghost use Rattle.refusals.specs.Columns.{yes};
 ghost use Rattle.refusals.specs.Left.{After};
-ghost use Rattle.lines.specs.Held.{setting_lent, line_lent};
+ghost use Rattle.lines.specs.Held.{setting_lent, line_mut_lent, line_all_mut_lent};
 ghost use Rattle.lines.specs.Joined.{join_after};
 ghost use Rattle.replacing.specs.Replaced.{request_of, replace_after};
 ghost use Rattle.marks.specs.Reordered.{reorder_request, marks_lent, reorder_after};
 ghost use Rattle.recording.specs.Recorded.{record_request, record_outcome, record_after};
-ghost use Rattle.runs.specs.Records.{columns_lent};
+ghost use Rattle.runs.specs.Records.{columns_lent, columns_mut_lent};
 ghost use Rattle.stretching.specs.Stretching.{stretched_limit, stretch_after};
 ghost use Rattle.layouts.specs.declared.Kind.TheVariants.{Single, Ligature};
 ghost use Rattle.layouts.specs.Lookups.{lookup_lent};
@@ -47,7 +47,7 @@ pub extern "C" fn tt_join_line(
     masks: &mut [u32],
 ) -> u8
     ensures { let s = setting_lent pre_types pre_categories post_types post_categories (manner_lent features mongolian) in
-        let l = line_lent codes types categories base actions masks in
+        let l = line_mut_lent codes types categories base actions masks in
         After result l.exit ≡ join_after s l.entry }
 {
     let features = *features;
@@ -92,7 +92,7 @@ pub extern "C" fn tt_replace_letter(
 ) -> u8
     ensures { let s = setting_lent pre_types pre_categories post_types post_categories (manner_lent features mongolian) in
         let q = request_of place code joining_type category in
-        let l = line_lent codes types categories base actions masks in
+        let l = line_all_mut_lent codes types categories base actions masks in
         After result l.exit ≡ replace_after s q l.entry }
 {
     let features = *features;
@@ -201,7 +201,7 @@ pub extern "C" fn tt_stretch(
     length: &mut usize,
 ) -> u8
     ensures { let l = columns_lent glyphs widths categories ignorables actions advances offsets in
-        let o = columns_lent to_glyphs to_widths to_categories to_ignorables to_actions to_advances to_offsets in
+        let o = columns_mut_lent to_glyphs to_widths to_categories to_ignorables to_actions to_advances to_offsets in
         After result (line_told length o) ≡ stretch_after stretched_limit (line_asked recorded rtl l) o.entry }
 {
     let answer = stretching::stretch(

@@ -1,7 +1,6 @@
 -- `letters::get_joining_type` meets its contract: each answer rewrites with the tests that led to it.
 -- Assumes nothing.
 use mathlib.Core.Path.{sym, ◌∙◌}
-use borrow.Author.Rules.{rules}
 use borrow.Author.Tests.{eq-eqb, ne_eqb}
 use Rattle.letters.proofs.get_joining_type.Goals as goal
 

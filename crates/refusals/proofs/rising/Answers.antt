@@ -1,12 +1,9 @@
 -- `refusals::rising` meets its contract: what the test says of the column is what the flag and the rest of it say.
 -- Assumes nothing.
-use mathlib.Core.Path.{◌≡◌, ap, ◌∙◌}
-use mathlib.Core.Bool.{Bool, cond, not, ◌&&◌}
-use Prim.Native.Nat.{◌-◌, ◌≤◌}
+use mathlib.Core.Path.{ap, ◌∙◌}
+use mathlib.Core.Bool.{Bool, cond, not}
 use borrow.Author.Rules.{rules}
-use lib.ListN.{length, drop}
 use Rattle.laws.proofs.LoopLaws.{flag-next, flag-ends}
-use Rattle.refusals.specs.Columns.{rising}
 use Rattle.refusals.proofs.ColumnLaws.{strictly_turn, rising-ends}
 use Rattle.refusals.proofs.rising.Goals as goal
 

@@ -1,11 +1,8 @@
-use mathlib.Core.Path.{◌≡◌, ap, ◌∙◌}
-use mathlib.Core.Bool.{Bool, cond, not, ◌&&◌}
+use mathlib.Core.Path.{◌≡◌}
+use mathlib.Core.Bool.{◌&&◌}
 use Prim.Native.Nat.{◌-◌, ◌≤◌}
-use borrow.Author.Rules.{rules}
 use lib.ListN.{length, drop}
-use Rattle.laws.proofs.LoopLaws.{flag-next, flag-ends}
 use Rattle.refusals.specs.Columns.{rising}
-use Rattle.refusals.proofs.ColumnLaws.{strictly_turn, rising-ends}
 use Rattle.refusals.proofs.rising.Given as goal
 
 abbrev pub invariant-loop-i : goal.invariant-loop-i

@@ -1,10 +1,8 @@
 -- `refusals::within` meets its contract: what the test says of the column is what the flag and the rest of it say.
 -- Assumes nothing.
-use mathlib.Core.Path.{◌≡◌, ap}
-use mathlib.Core.Bool.{◌&&◌}
-use Prim.Native.Nat.{◌-◌, ◌≤◌}
+use mathlib.Core.Path.{ap}
 use borrow.Author.Rules.{rules}
-use lib.ListN.{length, drop, drop_of_length-le}
+use lib.ListN.{drop_of_length-le}
 use Rattle.laws.proofs.LoopLaws.{flag-next, flag-ends}
 use Rattle.refusals.specs.Columns.{at_most}
 use Rattle.refusals.proofs.ColumnLaws.{at_most_turn}

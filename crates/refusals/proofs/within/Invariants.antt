@@ -1,11 +1,8 @@
-use mathlib.Core.Path.{◌≡◌, ap}
+use mathlib.Core.Path.{◌≡◌}
 use mathlib.Core.Bool.{◌&&◌}
 use Prim.Native.Nat.{◌-◌, ◌≤◌}
-use borrow.Author.Rules.{rules}
-use lib.ListN.{length, drop, drop_of_length-le}
-use Rattle.laws.proofs.LoopLaws.{flag-next, flag-ends}
+use lib.ListN.{length, drop}
 use Rattle.refusals.specs.Columns.{at_most}
-use Rattle.refusals.proofs.ColumnLaws.{at_most_turn}
 use Rattle.refusals.proofs.within.Given as goal
 
 abbrev pub invariant-loop-i : goal.invariant-loop-i

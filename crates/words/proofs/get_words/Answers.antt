@@ -2,8 +2,8 @@
 -- Assumes nothing.
 use native.Mathlib.Omega.{arith}
 use mathlib.Core.Path.{◌≡◌, refl, sym, ap, ◌∙◌}
-use Prim.Native.Nat.{ℕ, ◌-◌, ◌≤◌}
-use lib.ListN.{length, length-set}
+use Prim.Native.Nat.{ℕ, ◌-◌}
+use lib.ListN.{length-set}
 use Rattle.laws.specs.Lists.{pasted}
 use Rattle.laws.proofs.PasteLaws.{paste_none}
 use Rattle.words.specs.Words.{words_at}

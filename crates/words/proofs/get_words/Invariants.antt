@@ -1,11 +1,8 @@
-use native.Mathlib.Omega.{arith}
-use mathlib.Core.Path.{◌≡◌, refl, sym, ap, ◌∙◌}
-use Prim.Native.Nat.{ℕ, ◌-◌, ◌≤◌}
-use lib.ListN.{length, length-set}
+use mathlib.Core.Path.{◌≡◌}
+use Prim.Native.Nat.{◌≤◌}
+use lib.ListN.{length}
 use Rattle.laws.specs.Lists.{pasted}
-use Rattle.laws.proofs.PasteLaws.{paste_none}
 use Rattle.words.specs.Words.{words_at}
-use Rattle.words.proofs.WordLaws.{length-words, paste_front, fill_last}
 use Rattle.words.proofs.get_words.Given as goal
 
 abbrev pub invariant-loop-i : goal.invariant-loop-i

@@ -1,9 +1,6 @@
 -- `words::put_each` meets its contract: of the words that are still to come, the whole is made.
 -- Assumes nothing.
 use native.Mathlib.Omega.{arith}
-use Prim.Native.Nat.{◌-◌, ◌≤◌}
-use lib.ListN.{length, drop}
-use Rattle.words.specs.Words.{Wrote}
 use Rattle.words.proofs.WroteLaws.{begin, next, room_next, no_more}
 use Rattle.words.proofs.put_each.Goals as goal
 

@@ -1,8 +1,6 @@
-use native.Mathlib.Omega.{arith}
 use Prim.Native.Nat.{◌-◌, ◌≤◌}
 use lib.ListN.{length, drop}
 use Rattle.words.specs.Words.{Wrote}
-use Rattle.words.proofs.WroteLaws.{begin, next, room_next, no_more}
 use Rattle.words.proofs.put_each.Given as goal
 
 abbrev pub invariant-loop-i : goal.invariant-loop-i

@@ -1,7 +1,6 @@
 -- `words::put_eight` meets its contract: what it reads first are the eight words.
 -- Assumes nothing.
 use Rattle.words.proofs.WroteLaws.{eight-words}
-use borrow.Author.Rules.{rules}
 use Rattle.words.proofs.put_eight.Goals as goal
 
 pub returns : goal.returns

@@ -2,7 +2,7 @@
 -- Assumes nothing.
 use native.Mathlib.Omega.{arith}
 use mathlib.Core.Path.{◌≡◌}
-use Prim.Native.Nat.{◌-◌, ◌*◌, ◌/◌, ◌≤◌}
+use Prim.Native.Nat.{◌-◌, ◌*◌, ◌/◌}
 use lib.ListN.{length, take, drop}
 use Rattle.words.specs.Words.{Wrote}
 use Rattle.words.proofs.WroteLaws.{begin, then, next-eight, room-eight, left_behind}

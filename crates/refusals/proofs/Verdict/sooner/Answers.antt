@@ -2,7 +2,6 @@
 -- Assumes nothing.
 use mathlib.Core.Path.{sym, ◌∙◌}
 use native.Mathlib.Omega.{arith}
-use borrow.Author.Rules.{rules}
 use Rattle.laws.proofs.RowLaws.{sooner_zero, sooner-left, sooner-right}
 use Rattle.refusals.specs.Numbers.{said}
 use Rattle.refusals.proofs.Verdict.sooner.Goals as goal

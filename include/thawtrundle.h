@@ -3,7 +3,7 @@
  * lookups.
  *
  * tt_joining_type, tt_join_codes and tt_replace_code are in libthawtrundle_codes.a, all others in libthawtrundle.a, for x86-64 Linux
- * (`rt staticlib thawtrundle_codes` and `rt staticlib thawtrundle` prove and make them). "Document 01" is the project's scope; the
+ * (`rt lib` in crates/thawtrundle_codes and in crates/thawtrundle proves and makes them). "Document 01" is the project's scope; the
  * statement of each call is in crates/thawtrundle_codes/src/lib.rt or crates/thawtrundle/src/lib.rt. tools/interface holds this file
  * to these.
  *

@@ -3,6 +3,7 @@ good cases, and the `main` of a tool. A call is a dictionary of its columns by t
 
 import argparse
 import itertools
+import os
 import pathlib
 import random
 import re
@@ -11,6 +12,7 @@ import subprocess
 import sys
 
 ROOT = pathlib.Path(__file__).resolve().parent.parent
+RUN = os.environ.get("LIMITS_RUN") or ROOT / "run"  # tools/bindings has its driver run in the place of the programs
 LAST_PLACE = 2**32 - 1  # that a case can have
 
 
@@ -94,7 +96,7 @@ def compare_model(tool, stream, inputs, answer):
 
 def as_expected(tool, program, cases, seed):
     """Runs the program on the cases, and says whether it finds all of them as they are to be."""
-    ran = subprocess.run([ROOT / "run", program], input=b"".join(cases), stdout=subprocess.PIPE)
+    ran = subprocess.run([RUN, program], input=b"".join(cases), stdout=subprocess.PIPE)
     printed = ran.stdout.decode()
     print(f"{tool}: {printed.strip()} (seed {seed})")
     return ran.returncode == 0 and printed == f"{program}: {len(cases)} cases, 0 differ\n"
@@ -127,7 +129,7 @@ def wrong_forms(call, inputs, outputs, answer, spoilt):
 def told(program, calls, inputs, outputs, answer, spoilt):
     """What the program prints of cases that are wrong: how many there are, and of how many it does not say so. Wrong answers are all read in one run,
     wrong forms each in a run of its own, on the first call."""
-    command = subprocess.run([ROOT / "run", "--command", program], capture_output=True, text=True, check=True).stdout.split("\n")[:-1]
+    command = subprocess.run([RUN, "--command", program], capture_output=True, text=True, check=True).stdout.split("\n")[:-1]
     printed = lambda cases: subprocess.run(command, input=cases, stdout=subprocess.PIPE).stdout.decode()
     answers = [bad for call in calls for bad in wrong_answers(call, inputs, outputs, answer)]
     forms = list(wrong_forms(calls[0], inputs, outputs, answer, spoilt))

@@ -24,7 +24,7 @@ def not_run(why):
 
 
 def table_text():
-    """The tools may stand in a copy below the repository, so each folder above them is asked."""
+    """The repository may be a clone that stands deeper, so each folder above the tools is asked."""
     for folder in pathlib.Path(__file__).resolve().parents:
         if (folder / TABLE).is_file():
             return (folder / TABLE).read_text()

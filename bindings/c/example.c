@@ -2,7 +2,7 @@
  * A held line: joined once by its codes and categories, a letter altered, and a refusal that alters nothing. No type is lent: those that
  * are printed are looked up for that.
  *
- *   cc -Iinclude bindings/c/example.c target/staticlib/libthawtrundle_codes.a -o example && ./example
+ *   cc -Iinclude bindings/c/example.c crates/thawtrundle_codes/out/libthawtrundle_codes.a -o example && ./example
  */
 #include "thawtrundle.h"
 

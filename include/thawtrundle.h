@@ -23,7 +23,7 @@
  *   behind it.
  * - No call allocates, keeps a pointer or has a state of its own. Calls of several threads at a time are fine, as long as none
  *   of them is lent what another may write.
- * - tt_fallback_plan uses about 83,000 bytes of the stack, tt_join_codes and tt_replace_code about 5,100, every other call less
+ * - tt_fallback_plan uses about 82,000 bytes of the stack, tt_join_codes and tt_replace_code about 4,900, every other call less
  *   than 1,000. Nothing tests that they are there: a thread that makes plans, or joins by codes, needs a stack of this size beside
  *   its own needs.
  * - Of the C library the archives need memcpy and memset.

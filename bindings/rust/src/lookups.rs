@@ -123,7 +123,7 @@ impl Plan {
 /// codes that do not rise strictly ([`Refusal::OutOfRange`]) and an area that is too short ([`Refusal::NoRoom`]). An area of
 /// [`LONGEST_PLAN`] bytes never is: that is proved.
 ///
-/// A plan is made on the stack of the thread that asks for it, in some 83,000 bytes, and nothing tests that they are there. No
+/// A plan is made on the stack of the thread that asks for it, in some 82,000 bytes, and nothing tests that they are there. No
 /// other call of this crate needs 1,000.
 pub fn fallback_plan(masks: &[u32; 5], font: FontMap<'_>, rows: Rows<'_>, area: &mut [u8]) -> Result<Plan, Refusal> {
     let (count, entry_masks, entry_lengths) = calls::fallback_plan(masks, &font, &rows, area)?;

@@ -25,7 +25,7 @@
  *   of them is lent what another may write.
  * - tt_fallback_plan uses about 82,000 bytes of the stack, tt_join_codes and tt_replace_code about 4,900, every other call less
  *   than 1,000. Nothing tests that they are there: a thread that makes plans, or joins by codes, needs a stack of this size beside
- *   its own needs.
+ *   its own needs. (docs/TRUST.md has the figures, and of which archives they are.)
  * - Of the C library the archives need memcpy and memset.
  */
 #ifndef THAWTRUNDLE_H

@@ -11,7 +11,7 @@ use Rattle.words.proofs.WordLaws.{words-next, words-none, length-words}
 use Rattle.scanning.specs.Scans.{Rest, wrong, short, next, exactly}
 use Rattle.accepting.specs.declared.Scanned.{Scanned}
 use Rattle.accepting.specs.declared.Scanned.TheVariants.{At, Wrong, Short}
-use Rattle.accepting.specs.Scanned.{from, after, stands, Took, these}
+use Rattle.accepting.specs.Scanned.{from, after, Stands, Took, these}
 
 -- ---- one word
 module _ (b : List ℕ) (p : ℕ) where
@@ -56,7 +56,7 @@ stopped (At p) b k m h = absurd (h p refl)
 stopped (Wrong p) b k m h = refl
 stopped Short b k m h = refl
 
-stopped-stands : (r : Scanned) (end room : ℕ) → ((q : ℕ) → r ≡ At q → ⊥) → stands r end room
+stopped-stands : (r : Scanned) (end room : ℕ) → ((q : ℕ) → r ≡ At q → ⊥) → Stands r end room
 stopped-stands (At p) end room h = absurd (h p refl)
 stopped-stands (Wrong p) end room h = tt
 stopped-stands Short end room h = tt
@@ -82,7 +82,7 @@ module _ {A B : Type 0} (part : (A → Rest) → Rest) (follows : A → (B → R
 
 -- where a part ends
 pub took_place : {A : Type 0} {part : (A → Rest) → Rest} {value : A} {end : ℕ} {b : List ℕ} {p : ℕ} (s : Scanned) (q : ℕ) → s ≡ At q → Took part value end b p s → (q ≡ end) × (q ≤ length b)
-took_place {end} {b} s q same t = subst (λ (x : Scanned). stands x end (length b)) same t.place
+took_place {end} {b} s q same t = subst (λ (x : Scanned). Stands x end (length b)) same t.place
 
 -- nothing is taken
 pub took_none : {A : Type 0} {value : A} {end : ℕ} (b : List ℕ) (p : ℕ) → p ≡ end → p ≤ length b → Took (λ (k : A → Rest). k value) value end b p (At p)

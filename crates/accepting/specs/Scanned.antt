@@ -17,15 +17,15 @@ after (Wrong p) b k = wrong ((length b - p) / 2)
 after Short b k = short
 
 -- the place is that of the end, which is in the bytes
-abbrev pub stands : Scanned → ℕ → ℕ → Type 0
-stands (At p) end room = (p ≡ end) × (p ≤ room)
-stands (Wrong p) end room = Unit
-stands Short end room = Unit
+abbrev pub Stands : Scanned → ℕ → ℕ → Type 0
+Stands (At p) end room = (p ≡ end) × (p ≤ room)
+Stands (Wrong p) end room = Unit
+Stands Short end room = Unit
 
 -- from byte p on, a part of a lookup was taken: it said the value and ended at byte `end`, or the scan stopped in it
 pub record Took {A : Type 0} (part : (A → Rest) → Rest) (value : A) (end : ℕ) (b : List ℕ) (p : ℕ) (r : Scanned) : Type 0 where
   pub goes : (k : A → Rest) → part k (from b p) ≡ after r b (k value)
-  pub place : stands r end (length b)
+  pub place : Stands r end (length b)
 
 -- certain words, which say nothing
 abbrev pub these : List ℕ → (Unit {0} → Rest) → Rest

@@ -17,7 +17,7 @@ use Rattle.scanning.proofs.KindLaws.{further-second}
 use Rattle.accepting.specs.declared.Scanned.{Scanned}
 use Rattle.accepting.specs.declared.Scanned.TheVariants.{At, Wrong, Short}
 use Rattle.accepting.specs.Scanned.{from, after, Took}
-use Rattle.recognizing.specs.Recognized.{lookup_at, Opened, single_part, SingleTaken, ligature_part, LigatureTaken, inside, ends_in, Held}
+use Rattle.recognizing.specs.Recognized.{lookup_at, Opened, single_part, SingleTaken, ligature_part, LigatureTaken, Inside, ends_in, Held}
 
 -- nothing is read
 abbrev pub Other : Scan → Type 0
@@ -29,7 +29,7 @@ wrong-other n l e = let z : ◌≡◌ {A = ℕ} 0 1 = cc in omega arith
 short-other : Other short
 short-other l e = let z : ◌≡◌ {A = ℕ} 0 1 = cc in omega arith
 
-pub took_inside : {A : Type 0} {part : (A → Rest) → Rest} {value : A} {e : ℕ} {b : List ℕ} {p : ℕ} (r : Scanned) → Took part value e b p r → inside r (length b)
+pub took_inside : {A : Type 0} {part : (A → Rest) → Rest} {value : A} {e : ℕ} {b : List ℕ} {p : ℕ} (r : Scanned) → Took part value e b p r → Inside r (length b)
 took_inside (At q) t = t.place.1
 took_inside (Wrong q) t = tt
 took_inside Short t = tt

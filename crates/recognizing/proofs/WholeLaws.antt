@@ -1,10 +1,12 @@
--- Whole lookups, part behind part: what both kinds begin with (`begun-head`, `begun_format`, `begun_taken`, `counts-stopped`, `opened_stopped`, `opened_known`), a single lookup (`single-begins`, `single-stops`, `single_taken`), a ligature lookup (`most-small`, `sets-few`, `ligature-begins`, `ligature-starts`, `ligature-covered`, `ligature_taken`).
+-- Whole lookups, part behind part: what both kinds begin with (`begun-head`, `begun_format`, `begun_taken`, `counts-stopped`, `opened_stopped`, `opened_known`, `at_place`), a single lookup (`single-begins`, `single-stops`, `single_taken`), a ligature lookup (`most-small`, `sets-few`, `ligature-begins`, `ligature-starts`, `ligature-covered`, `ligature_taken`).
 -- Assumes nothing.
 use mathlib.Core.Path.{◌≡◌, refl, ap, ◌∙◌}
 use mathlib.Core.List.{List, [], ◌∷◌}
 use Prim.Native.Nat.{ℕ, ◌+◌, ◌-◌, ◌*◌, ◌/◌, ◌≤◌, ◌<◌}
 use native.Mathlib.Nat.{div-mul-le_self, le-div_iff_mul-le, mul-le-mul_left}
 use native.Mathlib.Omega.{arith}
+use denote.Enum.Declared.{tag_of}
+use Rattle.accepting.specs.contracts.Scanned.{the_type}
 use Rattle.words.specs.Words.{word_at, words_at}
 use Rattle.layouts.specs.declared.Kind.TheVariants.{Single, Ligature}
 use Rattle.layouts.specs.Tables.{Rule}
@@ -34,6 +36,12 @@ pub opened_known : (r : Scanned) (b : List ℕ) → 6 ≤ word_at b 10 → Opene
 opened_known (At p) b h = h
 opened_known (Wrong p) b h = tt
 opened_known Short b h = tt
+
+-- a scan that did not stop
+pub at_place : (r : Scanned) → tag_of the_type r ≡ 0 → (p : ℕ) × (r ≡ At p)
+at_place (At p) h = (p, refl)
+at_place (Wrong p) h = absurd (omega arith)
+at_place Short h = absurd (omega arith)
 
 module _ (type format most : ℕ) (b : List ℕ) where
   abbrev behind_head : ℕ → ((ℕ × ℕ) → Rest) → Rest

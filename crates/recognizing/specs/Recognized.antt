@@ -1,4 +1,4 @@
--- The lookup that bytes hold, by its places: `begun`, `count_at` what both kinds begin with; `lookup_at`, `end_of` the lookup of a kind, and where it ends; `Opened`, `SingleTaken`, `LigatureTaken` what scanning one answers; `inside`, `ends_in` that a scan came to the end; `Recognizing` what bytes are recognized as.
+-- The lookup that bytes hold, by its places: `begun`, `count_at` what both kinds begin with; `lookup_at`, `end_of` the lookup of a kind, and where it ends; `Opened`, `SingleTaken`, `LigatureTaken` what scanning one answers; `Inside`, `ends_in` that a scan came to the end; `Recognizing` what bytes are recognized as.
 -- Assumes nothing.
 use Rattle.std.specs.Prelude.{◌≡◌, Bool, false, List, [], ◌∷◌, ℕ, ◌+◌, ◌-◌, ◌*◌, ◌/◌, ◌≤◌, ◌<◌, ltb, length}
 use Rattle.words.specs.Words.{word_at, words_at}
@@ -56,10 +56,10 @@ abbrev pub LigatureTaken : ℕ → List ℕ → Scanned → Type 0
 LigatureTaken n b r = Took (ligature_part n) (lookup_at (Ligature n) b) (end_of (Ligature n) b) b 0 r
 
 -- a place is in the bytes
-abbrev pub inside : Scanned → ℕ → Type 0
-inside (At p) len = p ≤ len
-inside (Wrong p) len = Unit
-inside Short len = Unit
+abbrev pub Inside : Scanned → ℕ → Type 0
+Inside (At p) len = p ≤ len
+Inside (Wrong p) len = Unit
+Inside Short len = Unit
 
 -- no word is left
 abbrev pub ends_in : Scanned → ℕ → Bool

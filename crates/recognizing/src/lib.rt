@@ -4,7 +4,7 @@
 ghost use Rattle.std.specs.Prelude.{◌≡◌, ◌<◌, ◌≤◌};
 ghost use Rattle.words.specs.Words.{word_at};
 ghost use Rattle.accepting.specs.Scanned.{Took, Counts};
-ghost use Rattle.recognizing.specs.Recognized.{begun, count_at, inside, ends_in, Opened, SingleTaken, LigatureTaken, Recognizing};
+ghost use Rattle.recognizing.specs.Recognized.{begun, count_at, Inside, ends_in, Opened, SingleTaken, LigatureTaken, Recognizing};
 
 use accepting::Scanned;
 use layouts::Kind;
@@ -74,7 +74,7 @@ fn ligature(n: usize, bytes: &[u8]) -> Scanned
 
 // Whether a scan came to its end with no word left of `len` bytes.
 fn ends(scanned: Scanned, len: usize) -> bool
-    requires { inside scanned len }
+    requires { Inside scanned len }
     ensures { result ≡ ends_in scanned len }
 {
     match scanned {

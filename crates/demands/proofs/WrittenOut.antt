@@ -1,5 +1,5 @@
--- What a contract says by `line_mut_lent`, `line_all_mut_lent`, `setting_lent`, `coded_line_mut_lent`, `coded_line_all_mut_lent`, `coded_setting_lent`, `marks_lent`, `columns_lent`, `columns_mut_lent` is what it says with each column written out, by computation: `joining`, `replacing`, `joining-codes`, `replacing-codes`, `reordering`, `stretching`, the statements of these calls.
--- (`record_stch` names its columns itself.)
+-- What a contract says by `line_lent`, `line_mut_lent`, `line_all_mut_lent`, `setting_lent`, `coded_line_lent`, `coded_line_mut_lent`, `coded_line_all_mut_lent`, `coded_setting_lent`, `marks_lent`, `columns_lent`, `columns_mut_lent` is what it says with each column written out, by computation: `joining`, `replacing`, `joining-codes`, `replacing-codes`, `reordering`, `stretching`, the statements of these calls.
+-- Of a line that a call only looks at: `looking`, `looking_codes`. (`record_stch` names its columns itself.)
 -- Assumes nothing.
 use mathlib.Core.Path.{◌≡◌, refl}
 use mathlib.Core.Bool.{Bool}
@@ -11,15 +11,29 @@ use Rattle.refusals.specs.declared.Verdict.{Verdict}
 use Rattle.listed.specs.Rows.{type_in}
 use Rattle.listed.specs.Listed.{listed}
 use Rattle.lines.specs.declared.Manner.{Manner}
-use Rattle.lines.specs.Held.{setting_of, line_of, setting_lent, line_mut_lent, line_all_mut_lent}
+use Rattle.lines.specs.Held.{setting_of, line_of, setting_lent, line_lent, line_mut_lent, line_all_mut_lent}
 use Rattle.lines.specs.Joined.{Joining}
 use Rattle.replacing.specs.Replaced.{Request, request_of, Replacing}
-use Rattle.coded.specs.Coded.{coded_request_of, coded_setting_lent, coded_line_mut_lent, coded_line_all_mut_lent, JoiningCodes, ReplacingCodes}
+use Rattle.coded.specs.Coded.{coded_line_of, coded_request_of, coded_setting_lent, coded_line_lent, coded_line_mut_lent, coded_line_all_mut_lent, JoiningCodes, ReplacingCodes}
 use Rattle.marks.specs.declared.Answer as marked
 use Rattle.marks.specs.Reordered.{ReorderRequest, columns_of, marks_lent, Reordering}
 use Rattle.runs.specs.Records.{columns, columns_lent, columns_mut_lent}
 use Rattle.stretching.specs.declared.Answer as stretched
 use Rattle.stretching.specs.Stretching.{stretch_request, Stretching}
+
+-- what only looks at a line writes nothing
+module _ (codes types categories base actions masks : Borrowed ℕ) where
+  pub looking :
+      (let l = line_lent codes types categories base actions masks in
+      (l.entry ≡ line_of codes.entry.now types.entry.now categories.entry.now base.entry.now actions.entry.now masks.entry.now)
+      × (l.exit ≡ line_of codes.exit.now types.exit.now categories.exit.now base.exit.now actions.exit.now masks.exit.now))
+  looking = (refl, refl)
+
+  pub looking_codes :
+      (let l = coded_line_lent codes categories base actions masks in
+      (l.entry ≡ coded_line_of codes.entry.now categories.entry.now base.entry.now actions.entry.now masks.entry.now)
+      × (l.exit ≡ coded_line_of codes.exit.now categories.exit.now base.exit.now actions.exit.now masks.exit.now))
+  looking_codes = (refl, refl)
 
 -- joining writes actions and masks
 module _ (codes types categories base pt pg qt qg : Borrowed ℕ) (actions masks : BorrowedMut ℕ) (manner : Manner) (r : Verdict) where

@@ -2,7 +2,8 @@
 -- Assumes nothing.
 use mathlib.Core.Path.{ap, ◌∙◌}
 use mathlib.Core.Bool.{Bool, cond, not}
-use borrow.Author.Rules.{rules}
+use Prim.Native.Nat.{◌-◌}
+use native.Mathlib.Omega.{arith}
 use Rattle.laws.proofs.LoopLaws.{flag-next, flag-ends}
 use Rattle.refusals.proofs.ColumnLaws.{strictly_turn, rising-ends}
 use Rattle.refusals.proofs.rising.Goals as goal
@@ -10,9 +11,9 @@ use Rattle.refusals.proofs.rising.Goals as goal
 pub loop-i-preserved : goal.loop-i-preserved
 loop-i-preserved c =
     let l = c.loop-i in
-    (search rules, flag-next l.ok l.invariant.1 _ _ (strictly_turn _ _ c.loop-i-test.true))
+    flag-next l.ok l.invariant _ _ (strictly_turn _ _ l.auto.i c.loop-i-test.true)
 
 pub returns : goal.returns
 returns c =
     let l = c.loop-i in
-    c.unless.ensures ∙ ap (λ (b : Bool). cond (not b) 3 0) (flag-ends l.ok l.invariant.1 (rising-ends 1 _ _ c.loop-i-test.false))
+    c.unless.ensures ∙ ap (λ (b : Bool). cond (not b) 3 0) (flag-ends l.ok l.invariant (rising-ends 1 c.args.column.now (l.i - 1) (omega (arith, l.auto.i, c.loop-i-test.false))))

@@ -8,5 +8,5 @@ pub returns : goal.returns
 unfolding form
 returns c =
     rw
-    (c.new.ensures, c.choose-9.ensures, c.choose-8.ensures, c.choose-7.ensures, c.choose-6.ensures, c.alaph_form.ensures, c.choose-5.ensures, c.choose-4.ensures, c.choose-3.ensures, c.choose-2.ensures, c.choose.ensures, c.reaches_back-back.ensures, c.reaches_on-on.ensures)
+    (c.from.ensures, c.choose-9.ensures, c.choose-8.ensures, c.choose-7.ensures, c.choose-6.ensures, c.alaph_form.ensures, c.choose-5.ensures, c.choose-4.ensures, c.choose-3.ensures, c.choose-2.ensures, c.choose.ensures, c.eq.ensures, c.eq-2.ensures, c.eq-3.ensures, c.eq-4.ensures, c.eq-5.ensures, c.reaches_back-back.ensures, c.reaches_on-on.ensures)
     refl

@@ -9,26 +9,22 @@ use letters::Action;
 
 // The mask of a record. Past the seven entries there is mask 0.
 pub fn mask_of(features: &[u32; 7], base: u32, action: Action) -> u32
-    requires { length features.now ≡ 7 }
     ensures { result ≡ mask features.now base action.0 }
 {
-    let entry = action.number();
+    let entry = action.0;
     if entry < 7 {
-        return base | features[entry as usize];
+        return base | features[usize::from(entry)];
     }
     base
 }
 
 // The feature masks are lent to the loop: taken by value they would be copied for each record.
 fn fill(features: &[u32; 7], base: &[u32], actions: &[u8], masks: &mut [u32])
-    requires features_len { length features.now ≡ 7 }
-    requires base_len { (length base.now ≡ length actions.now) × (length base.now ≡ length masks.old) }
+    requires { (length base.now ≡ length actions.now) × (length base.now ≡ length masks.old) }
     ensures { masks.new ≡ masks_of features.now base.now actions.now }
 {
-    let mut i = 0;
-    while i < base.len() {
-        masks[i] = mask_of(features, base[i], Action::new(actions[i]));
-        i += 1;
+    for i in 0..base.len() {
+        masks[i] = mask_of(features, base[i], Action(actions[i]));
     }
 }
 

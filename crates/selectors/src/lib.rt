@@ -18,14 +18,12 @@ pub fn run_end(codes: &[u32], k: usize) -> usize
     requires { k ≤ length codes.now }
     ensures { result ≡ k + run (drop k codes.now) }
 {
-    let mut i = k;
-    while i < codes.len() {
+    for i in k..codes.len() {
         if !is_selector(Code(codes[i])) {
             return i;
         }
-        i += 1;
     }
-    i
+    codes.len()
 }
 
 // Settles the actions of a joined line. A record is looked at once the one before it is settled, so the action there is the one to take.
@@ -33,14 +31,12 @@ pub fn mongolian_variation_selectors(codes: &[u32], actions: &mut [u8])
     requires { length codes.now ≡ length actions.old }
     ensures { actions.new ≡ settled codes.now actions.old }
 {
-    let mut i = 0;
-    while i + 1 < codes.len() {
-        if is_selector(Code(codes[i + 1])) {
-            actions[i + 1] = actions[i];
-            i += 1;
-        } else {
-            i += 1;
+    for i in 1..codes.len() {
+        let code = Code(codes[i]);
+        if !is_selector(code) {
+            continue;
         }
+        actions[i] = actions[i - 1];
     }
 }
 
@@ -49,12 +45,10 @@ pub fn base_of(codes: &[u32], k: usize) -> usize
     requires { k < length codes.now }
     ensures { result ≡ base codes.now k }
 {
-    let mut i = k;
-    while 0 < i {
+    for i in (1..k + 1).rev() {
         if !is_selector(Code(codes[i])) {
             return i;
         }
-        i -= 1;
     }
     0
 }

@@ -10,9 +10,9 @@ pub returns-then-entry-lt7 : goal.returns-then-entry-lt7
 unfolding mask
 returns-then-entry-lt7 c =
     let a = c.args in
-    ap (mask a.features.now a.base) c.number-entry.ensures
+    ap (mask a.features.now a.base) c.from.ensures
 
 pub returns : goal.returns
 returns c =
     let a = c.args in
-    sym (mask-past a.features.now a.base a.action.0 (omega (arith, c.requires, c.number-entry.ensures)))
+    sym (mask-past a.features.now a.base a.action.0 (omega (arith, c.told-features, c.if-entry-lt7.false)))

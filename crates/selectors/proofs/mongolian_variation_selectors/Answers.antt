@@ -1,34 +1,32 @@
 -- `selectors::mongolian_variation_selectors` meets its contract: what is settled up to a record, and the rest settled from it on.
 -- Assumes nothing.
-use mathlib.Core.Path.{refl, sym, ◌∙◌}
-use borrow.Author.Rules.{rules}
-use lib.ListN.{length-set}
+use mathlib.Core.Path.{◌≡◌, sym, ◌∙◌}
+use Prim.Native.Nat.{◌-◌, ◌+◌}
+use native.Mathlib.Omega.{arith}
 use Rattle.selectors.proofs.SelectorLaws.{settled-takes, settled_keeps, settled-ends}
 use Rattle.selectors.proofs.mongolian_variation_selectors.Goals as goal
 
-pub loop-i-init : goal.loop-i-init
-loop-i-init c = (search rules, c.requires, refl)
-
-pub loop-i-preserved-then-is_selector : goal.loop-i-preserved-then-is_selector
-loop-i-preserved-then-is_selector c =
+pub loop-i-preserved-then-not-is_selector : goal.loop-i-preserved-then-not-is_selector
+loop-i-preserved-then-not-is_selector c =
     let l = c.loop-i in
-    let cs = c.args.codes.now in (
-      search rules,
-      simp length-set l.invariant.1,
-      l.invariant.2 ∙ settled-takes cs l.actions l.i l.invariant.1 (sym c.is_selector.ensures ∙ c.if-is_selector.true) (search rules),
-    )
+    let here : l.i - 1 + 1 ≡ l.i = omega (arith, l.auto.i) in
+    let next : l.i + 1 - 1 ≡ l.i = omega arith in
+    let none = sym c.is_selector.ensures ∙ c.if-not-is_selector.true in
+    let turn = settled_keeps c.args.codes.now l.actions (l.i - 1) (c.requires ∙ sym l.auto.actions) in
+    let turn_here = simp here at turn in
+    rw next (l.invariant ∙ turn_here none c.loop-i-test.true)
 
 pub loop-i-preserved : goal.loop-i-preserved
 loop-i-preserved c =
     let l = c.loop-i in
-    let cs = c.args.codes.now in (
-      search rules,
-      l.invariant.1,
-      l.invariant.2 ∙ settled_keeps cs l.actions l.i l.invariant.1 (sym c.is_selector.ensures ∙ c.if-is_selector.false) (search rules),
-    )
+    let here : l.i - 1 + 1 ≡ l.i = omega (arith, l.auto.i) in
+    let next : l.i + 1 - 1 ≡ l.i = omega arith in
+    let one = sym c.is_selector.ensures ∙ c.if-not-is_selector.false in
+    let turn = settled-takes c.args.codes.now l.actions (l.i - 1) (c.requires ∙ sym l.auto.actions) in
+    let turn_here = simp here at turn in
+    rw next (l.invariant ∙ turn_here one c.loop-i-test.true)
 
 pub returns : goal.returns
 returns c =
     let l = c.loop-i in
-    let cs = c.args.codes.now in
-    sym (l.invariant.2 ∙ settled-ends cs l.actions l.i l.invariant.1 (search rules))
+    sym (l.invariant ∙ settled-ends c.args.codes.now l.actions (l.i - 1) (c.requires ∙ sym l.auto.actions) (omega (arith, l.auto.i, c.loop-i-test.false)))

@@ -77,9 +77,9 @@ pub letter-back : (ts : List ℕ) (p n b : ℕ) → n ≡ p + 1 + place_of (drop
 letter-back ts p n b e = ap (λ (m : ℕ). latest b (take m ts)) e ∙ latest_place_from ts (p + 1) b
 
 -- ---- one answer: that of `letter_before`, and that of `letter_from`
-neighbour_equal : (r s : Neighbour) → r.place ≡ s.place → r.letter ≡ s.letter → r ≡ s
+neighbour_equal : (r s : Neighbour) → r.place ≡ s.place → r.letter.0 ≡ s.letter.0 → r ≡ s
 neighbour_equal r s p l =
-    ap (λ (k : ℕ). record { place = k; letter = r.letter }) p ∙ ap (λ (t : ℕ). record { place = s.place; letter = t }) l
+    ap (λ (k : ℕ). record { place = k; letter = r.letter }) p ∙ ap (λ (t : ℕ). record { place = s.place; letter = record { 0 = t } }) l
 
 module _ (ts : List ℕ) (k outer : ℕ) {r s : Neighbour} where
   pub before-once : StandsBefore ts k outer r → StandsBefore ts k outer s → r ≡ s

@@ -3,7 +3,7 @@
 use mathlib.Core.Path.{◌≡◌, refl, sym, ap, ◌∙◌}
 use mathlib.Core.Bool.{true, false}
 use mathlib.Core.List.{List}
-use Prim.Native.Nat.{ℕ, ◌+◌, ◌<◌, ◌≤◌}
+use Prim.Native.Nat.{ℕ, ◌+◌, ◌<◌}
 use native.Mathlib.Nat.{add-zero}
 use native.Mathlib.Omega.{arith}
 use borrow.Author.Tests.{eq-eqb, ne_eqb}
@@ -48,14 +48,14 @@ module _ {ts cs : List ℕ} (letters : Joinable ts cs) (j t : ℕ) (e : t ≡ re
     stops : eqb (get_or (line_types ts cs) j 0) T ≡ false
     stops = ne_eqb _ T (λ r. q (sym here ∙ r))
 
-    pub before-stops : (b i : ℕ) → i ≡ j + 1 → StandsBefore (line_types ts cs) i b (record { place = j; letter = t })
+    pub before-stops : (b i : ℕ) → i ≡ j + 1 → StandsBefore (line_types ts cs) i b (record { place = j; letter = record { 0 = t } })
     before-stops b i s =
         record {
           place = sym (rw s (place_before-here (line_types ts cs) j ∙ simp stops));
           letter = sym (rw s (latest-here (line_types ts cs) j within b ∙ simp stops here));
         }
 
-    pub from-stops : (a : ℕ) → StandsFrom (line_types ts cs) j a (record { place = j; letter = t })
+    pub from-stops : (a : ℕ) → StandsFrom (line_types ts cs) j a (record { place = j; letter = record { 0 = t } })
     from-stops a =
         record {
           place = sym (place_of-here (line_types ts cs) j within ∙ simp stops);
@@ -64,12 +64,13 @@ module _ {ts cs : List ℕ} (letters : Joinable ts cs) (j t : ℕ) (e : t ≡ re
 
 -- the walk has come to an end of the line
 module _ {ts cs : List ℕ} (letters : Joinable ts cs) where
-  pub before-ends : (b i : ℕ) → i ≡ 0 → StandsBefore (line_types ts cs) i b (record { place = length ts; letter = b })
+  pub before-ends : (b i : ℕ) → i ≡ 0 → StandsBefore (line_types ts cs) i b (record { place = length ts; letter = record { 0 = b } })
   before-ends b i z = record { place = rw z (sym (length-line_types ts cs letters.even)); letter = rw z refl }
 
-  pub from-ends : (a i : ℕ) → length ts ≤ i → StandsFrom (line_types ts cs) i a (record { place = i; letter = a })
-  from-ends a i h =
+  pub from-ends : (a i : ℕ) → i ≡ length ts → StandsFrom (line_types ts cs) i a (record { place = length ts; letter = record { 0 = a } })
+  from-ends a i e =
+      let end = line_types-end ts cs i letters.even (omega (arith, e)) in
       record {
-        place = sym (ap (λ (l : List ℕ). i + place_of l) (line_types-end ts cs i letters.even h) ∙ add-zero i);
-        letter = sym (ap (λ (l : List ℕ). nearest l a) (line_types-end ts cs i letters.even h));
+        place = sym (ap (λ (l : List ℕ). i + place_of l) end ∙ add-zero i ∙ e);
+        letter = sym (ap (λ (l : List ℕ). nearest l a) end);
       }

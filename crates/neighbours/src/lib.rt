@@ -2,60 +2,57 @@
 #![tactic(auto)]
 
 ghost use Rattle.std.specs.Prelude.{◌≤◌, length};
-ghost use Rattle.joining.specs.Joinable.{Joinable, types_lent};
+ghost use Rattle.joining.specs.Known.{known_types};
 ghost use Rattle.neighbours.specs.Beside.{StandsBefore, StandsFrom};
 
+use joining::KnownLetters;
 use letters::JoiningType;
 
-// A letter of the line and where it stands; past the line there is none, and its type is that of the letter next to the line.
-#[derive(Clone, Copy)]
+// A letter of the line and where it stands. Past the line there is none, and the letter next to the line stands for it: who asks wants a letter
+// in each case, so that an `Option` would be taken apart at every use.
+#[derive(Clone, Copy, Debug, PartialEq, Eq)]
 pub struct Neighbour {
     pub place: usize,
-    pub letter: u8,
+    pub letter: JoiningType,
 }
 
 // The nearest letter before place `k`; `before` stands before the line.
-pub fn letter_before(types: &[u8], categories: &[u8], k: usize, before: u8) -> Neighbour
-    requires joinable { Joinable types.now categories.now }
-    requires k_in_bounds { k ≤ length types.now }
-    ensures { StandsBefore (types_lent types categories) k before result }
+pub fn letter_before(letters: KnownLetters<'_>, k: usize, before: JoiningType) -> Neighbour
+    requires { k ≤ length letters.types.now }
+    ensures { StandsBefore (known_types letters.entry) k before.0 result }
 {
-    let mut i = k;
-    while 0 < i {
-        let prev_type = joining::type_at(types, categories, i - 1);
-        if prev_type != JoiningType::T.0 {
+    for i in (0..k).rev() {
+        let prev_type = letters.type_at(i);
+        if prev_type != JoiningType::T {
             return Neighbour {
-                place: i - 1,
+                place: i,
                 letter: prev_type,
             };
         }
-        i -= 1;
     }
+    let end = letters.types.len();
     Neighbour {
-        place: types.len(),
+        place: end,
         letter: before,
     }
 }
 
 // The nearest letter from place `k` on; `behind` stands behind the line.
-pub fn letter_from(types: &[u8], categories: &[u8], k: usize, behind: u8) -> Neighbour
-    requires joinable { Joinable types.now categories.now }
-    requires k_in_bounds { k ≤ length types.now }
-    ensures { StandsFrom (types_lent types categories) k behind result }
+pub fn letter_from(letters: KnownLetters<'_>, k: usize, behind: JoiningType) -> Neighbour
+    requires { k ≤ length letters.types.now }
+    ensures { StandsFrom (known_types letters.entry) k behind.0 result }
 {
-    let mut i = k;
-    while i < types.len() {
-        let next_type = joining::type_at(types, categories, i);
-        if next_type != JoiningType::T.0 {
+    for i in k..letters.types.len() {
+        let next_type = letters.type_at(i);
+        if next_type != JoiningType::T {
             return Neighbour {
                 place: i,
                 letter: next_type,
             };
         }
-        i += 1;
     }
     Neighbour {
-        place: i,
+        place: letters.types.len(),
         letter: behind,
     }
 }

@@ -84,11 +84,11 @@ pub length-fresh : (f : Frame) (l : Line) → length (fresh_actions f l) ≡ len
 length-fresh f l = go f.mongolian
   where
     joined : List ℕ
-    joined = each_between form f.before (types_of l.letters) f.behind
+    joined = each_between form f.before.0 (types_of l.letters) f.behind.0
 
     go : (mongolian : Bool) → length (cond mongolian (settled l.codes joined) joined) ≡ length (types_of l.letters)
-    go true = length-settled l.codes joined ∙ length-each form f.before (types_of l.letters) f.behind
-    go false = length-each form f.before (types_of l.letters) f.behind
+    go true = length-settled l.codes joined ∙ length-each form f.before.0 (types_of l.letters) f.behind.0
+    go false = length-each form f.before.0 (types_of l.letters) f.behind.0
 
 -- those that `actions_of` gives, settled in a Mongolian line
 pub fresh_contexts :

@@ -1,5 +1,5 @@
 -- A held line and what it stands in: `Letters` the types of letters as they are lent; `Setting` all that a line is joined by; `Line` a line's columns; `letters_of`, `setting_of`, `frame_by`, `line_of`, `manner_of` these from lists;
--- `letters_now`, `setting_now`, `line_now` from what a call is lent, as a `requires` has it; `setting_lent`, `line_lent` as an `ensures` has it;
+-- `setting_now`, `line_now` from what a call is lent, as a `requires` has it; `setting_lent`, `line_lent` as an `ensures` has it;
 -- `line_mut_now`, `line_mut_lent`, `line_all_mut_now`, `line_all_mut_lent` the same where a call may write columns (`&mut`).
 -- Assumes nothing.
 use Rattle.std.specs.Prelude.{Bool, List, ℕ}
@@ -37,7 +37,7 @@ setting_of pre_types pre_categories post_types post_categories features mongolia
 
 -- what a setting comes to is the struct `Frame`
 abbrev pub frame_by : ℕ → ℕ → List ℕ → Bool → Frame
-frame_by before behind features mongolian = record { before = before; behind = behind; features = features; mongolian = mongolian }
+frame_by before behind features mongolian = record { before = record { 0 = before }; behind = record { 0 = behind }; features = features; mongolian = mongolian }
 
 abbrev pub line_of : List ℕ → List ℕ → List ℕ → List ℕ → List ℕ → List ℕ → Line
 line_of codes types categories base actions masks =
@@ -48,9 +48,6 @@ abbrev pub manner_of : List ℕ → Bool → Manner
 manner_of features mongolian = record { features = features; mongolian = mongolian }
 
 -- the same, from the parameters of a call
-abbrev pub letters_now : Slice ℕ → Slice ℕ → Letters
-letters_now types categories = letters_of types.now categories.now
-
 abbrev pub setting_now : Slice ℕ → Slice ℕ → Slice ℕ → Slice ℕ → Manner → Setting
 setting_now pre_types pre_categories post_types post_categories manner =
     setting_of pre_types.now pre_categories.now post_types.now post_categories.now manner.features manner.mongolian

@@ -4,8 +4,7 @@
 -- Assumes nothing.
 use Rattle.std.specs.Prelude.{◌≡◌, Bool, cond, not, ◌&&◌, List, [], ◌∷◌, ℕ, eqb, leb, length}
 use Rattle.laws.specs.Rows.{Row, Given, first}
-use Rattle.refusals.specs.declared.Verdict.{Verdict}
-use Rattle.refusals.specs.Numbers.{said}
+use Rattle.refusals.specs.Numbers.{said, Verdict}
 use Rattle.refusals.specs.Columns.{line_limit, at_most}
 use Rattle.refusals.specs.Left.{Left, After, leaves}
 use Rattle.letters.specs.Types.{U, X}
@@ -32,7 +31,7 @@ actions_between mongolian codes before ts behind =
 
 -- the actions of a line in its frame
 abbrev pub fresh_actions : Frame → Line → List ℕ
-fresh_actions f l = actions_between f.mongolian l.codes f.before (types_of l.letters) f.behind
+fresh_actions f l = actions_between f.mongolian l.codes f.before.0 (types_of l.letters) f.behind.0
 
 -- the line with these actions and their masks. The actions and masks that it had count for nothing
 abbrev pub fresh_line : Frame → Line → Line

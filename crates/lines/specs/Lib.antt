@@ -2,3 +2,4 @@
 -- Assumes nothing.
 pub mod Held
 pub mod Joined
+pub mod Lent

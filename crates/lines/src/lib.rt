@@ -5,9 +5,11 @@ ghost use Rattle.std.specs.Prelude.{◌≡◌, cond, length};
 ghost use Rattle.laws.specs.Rows.{first};
 ghost use Rattle.refusals.specs.Numbers.{said};
 ghost use Rattle.selectors.specs.Selectors.{settled};
-ghost use Rattle.lines.specs.Held.{letters_now, setting_now, line_mut_now, setting_lent, line_lent, line_mut_lent};
-ghost use Rattle.lines.specs.Joined.{even_line_lem, known_letters_lem, refusal_rows, refusal, joined_line, Joining};
+ghost use Rattle.lines.specs.Held.{setting_now, line_mut_now, setting_lent, line_lent, line_mut_lent};
+ghost use Rattle.lines.specs.Lent.{letters_lent};
+ghost use Rattle.lines.specs.Joined.{even_letters, even_line_lem, known_letters_lem, refusal_rows, refusal, joined_line, Joining};
 
+use joining::KnownLetters;
 use letters::{Category, JoiningType};
 use refusals::{Refusal, Verdict};
 
@@ -15,26 +17,43 @@ use refusals::{Refusal, Verdict};
 const CONTEXT_LIMIT: usize = 64;
 
 // How a line is joined, apart from its letters: the seven feature masks, and whether it is Mongolian.
-#[derive(Clone, Copy)]
+#[derive(Clone, Copy, Debug, PartialEq, Eq)]
 pub struct Manner {
     pub features: [u32; 7],
     pub mongolian: bool,
 }
 
 // What a setting comes to: the types of the letters next to a line on both sides, the seven feature masks, whether it is Mongolian.
-#[derive(Clone, Copy)]
+#[derive(Clone, Copy, Debug, PartialEq, Eq)]
 pub struct Frame {
-    pub before: u8,
-    pub behind: u8,
+    pub before: JoiningType,
+    pub behind: JoiningType,
     pub features: [u32; 7],
     pub mongolian: bool,
 }
 
-// Each type is one of the eight, each category one of the thirty.
-fn known_letters(types: &[u8], categories: &[u8]) -> bool
-    ensures { result ≡ known_letters_lem (letters_now types.entry categories.entry) }
-{
-    refusals::within(types, JoiningType::X.0) & refusals::within(categories, Category::ZS.0)
+// Letters of a line or of a context, by their types and categories as they are lent: nothing of them was tested yet.
+#[derive(Clone, Copy)]
+pub struct LentLetters<'a> {
+    pub types: &'a [u8],
+    pub categories: &'a [u8],
+}
+
+impl LentLetters<'_> {
+    // As many types as categories.
+    fn even(self) -> bool
+        ensures { result ≡ even_letters (letters_lent self.entry) }
+    {
+        self.types.len() == self.categories.len()
+    }
+
+    // Each type is one of the eight, each category one of the thirty.
+    fn known(self) -> bool
+        ensures { result ≡ known_letters_lem (letters_lent self.entry) }
+    {
+        refusals::within(self.types, JoiningType::X.0)
+            & refusals::within(self.categories, Category::ZS.0)
+    }
 }
 
 // The columns of a line are of one length.
@@ -57,34 +76,26 @@ pub fn even_line(
 // The refusal of a line, of which it is known whether its columns are even, and its contexts.
 pub fn refused(
     line_even: bool,
-    types: &[u8],
-    categories: &[u8],
-    pre_types: &[u8],
-    pre_categories: &[u8],
-    post_types: &[u8],
-    post_categories: &[u8],
+    letters: LentLetters<'_>,
+    pre: LentLetters<'_>,
+    post: LentLetters<'_>,
 ) -> Verdict
-    ensures { let letters = letters_now types.entry categories.entry in
-        let pre = letters_now pre_types.entry pre_categories.entry in
-        let post = letters_now post_types.entry post_categories.entry in
-        said result ≡ first (refusal_rows line_even letters pre post) }
+    ensures { said result ≡ first (refusal_rows line_even (letters_lent letters.entry) (letters_lent pre.entry) (letters_lent post.entry)) }
 {
-    let even = line_even
-        & ((pre_types.len() == pre_categories.len()) & (post_types.len() == post_categories.len()));
+    let even = line_even & (pre.even() & post.even());
     if !even {
-        return Verdict::Refused(Refusal::Uneven);
+        return Err(Refusal::Uneven);
     }
-    let short = (types.len() <= refusals::LINE_LIMIT)
-        & ((pre_types.len() <= CONTEXT_LIMIT) & (post_types.len() <= CONTEXT_LIMIT));
+    let short = (letters.types.len() <= refusals::LINE_LIMIT)
+        & ((pre.types.len() <= CONTEXT_LIMIT) & (post.types.len() <= CONTEXT_LIMIT));
     if !short {
-        return Verdict::Refused(Refusal::TooLong);
+        return Err(Refusal::TooLong);
     }
-    let known = known_letters(types, categories)
-        & (known_letters(pre_types, pre_categories) & known_letters(post_types, post_categories));
+    let known = letters.known() & (pre.known() & post.known());
     if !known {
-        return Verdict::Refused(Refusal::OutOfRange);
+        return Err(Refusal::OutOfRange);
     }
-    Verdict::Accepted
+    Ok(())
 }
 
 // In a Mongolian line selectors take the action of the record before them.
@@ -119,15 +130,16 @@ fn join_accepted(
         let l = line_mut_lent codes types categories base actions masks in
         l.exit ≡ joined_line s l.entry }
 {
-    joining::arabic_joining(
-        types,
-        categories,
-        pre_types,
-        pre_categories,
-        post_types,
-        post_categories,
-        actions,
-    );
+    let line = KnownLetters { types, categories };
+    let pre = KnownLetters {
+        types: pre_types,
+        categories: pre_categories,
+    };
+    let post = KnownLetters {
+        types: post_types,
+        categories: post_categories,
+    };
+    joining::arabic_joining(line, pre, post, actions);
     settle(manner.mongolian, codes, actions);
     let features = manner.features;
     masks::setup_masks(features, base, actions, masks);
@@ -152,18 +164,16 @@ pub fn join_line(
         Joining s l.entry result l.exit }
 {
     let line_even = even_line(codes, types, categories, base, actions, masks);
-    let verdict = refused(
-        line_even,
-        types,
-        categories,
-        pre_types,
-        pre_categories,
-        post_types,
-        post_categories,
-    );
-    if verdict.number() != 0 {
-        return verdict;
-    }
+    let letters = LentLetters { types, categories };
+    let pre = LentLetters {
+        types: pre_types,
+        categories: pre_categories,
+    };
+    let post = LentLetters {
+        types: post_types,
+        categories: post_categories,
+    };
+    refused(line_even, letters, pre, post)?;
     join_accepted(
         codes,
         types,
@@ -177,5 +187,5 @@ pub fn join_line(
         actions,
         masks,
     );
-    verdict
+    Ok(())
 }

@@ -21,10 +21,17 @@ line s = let a = s.args in line_mut_now a.codes a.types a.categories a.base a.ac
 given : (s : Start) → Accepted (setting s) (line s)
 given s = accepted (setting s) (line s) s.requires
 
+pub invariant_of-line : goal.invariant_of-line
+invariant_of-line c = record { joinable = (given (search)).line }
+
+pub invariant_of-pre : goal.invariant_of-pre
+invariant_of-pre c = record { joinable = (given (search)).pre }
+
+pub invariant_of-post : goal.invariant_of-post
+invariant_of-post c = record { joinable = (given (search)).post }
+
 pub arabic_joining-requires : goal.arabic_joining-requires
-arabic_joining-requires c =
-    let g = given (search) in
-    record { joinable = g.line; joinable_2 = g.pre; joinable_3 = g.post; actions_len = g.actions }
+arabic_joining-requires c = (given (search)).actions
 
 pub settle-requires : goal.settle-requires
 settle-requires c =

@@ -54,7 +54,7 @@ module _ {f : Frame} {l : Line} (held : Renewable f l) where
         let at = reached f.mongolian l.codes k in
         let n = length-line_types l.letters.types l.letters.categories held.letters.even in
         let same : (j : ℕ) → span k end j ≡ at j = λ j. span-reached f.mongolian l.codes k end j ee in
-        let runs : (j : ℕ) → j < length l.letters.types → span k end j ≡ true → action ≡ get_or (fresh_actions f l) j 0 = λ j h q. ea ∙ sym (fresh-run f.mongolian l.codes f.before ts f.behind k j (omega (arith, n)) (sym (same j) ∙ q)) in
+        let runs : (j : ℕ) → j < length l.letters.types → span k end j ≡ true → action ≡ get_or (fresh_actions f l) j 0 = λ j h q. ea ∙ sym (fresh-run f.mongolian l.codes f.before.0 ts f.behind.0 k j (omega (arith, n)) (sym (same j) ∙ q)) in
         let acted : actions' ≡ renewed at (λ j. get_or (fresh_actions f l) j 0) l.actions = e ∙ renewed-alike (span k end) at _ _ l.actions (λ j h. same j) (λ j h. runs j (omega (arith, held.actions))) in
         let masked : masks' ≡ renewed at (λ j. get_or (fresh_line f l).masks j 0) l.masks = d ∙ renewed-alike (span k end) at _ _ l.masks (λ j h. same j)
         (λ j h q. ap (mask f.features (get_or l.base j 0)) (runs j (omega (arith, held.masks)) q) ∙ sym (fresh-mask j (omega (arith, held.masks)))) in

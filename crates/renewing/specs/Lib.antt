@@ -2,3 +2,4 @@
 -- Assumes nothing.
 pub mod Renewed
 pub mod Renewable
+pub mod Held

@@ -17,4 +17,4 @@ pub record Renewable (f : Frame) (l : Line) : Type 0 where
 
 -- in letters of the types ts, p and n are the nearest before and behind the record at k that are not transparent, in the line or past its ends
 abbrev pub Beside : Frame → List ℕ → ℕ → ℕ → ℕ → Type 0
-Beside f ts k p n = (p ≡ latest f.before (take k ts)) × (n ≡ nearest (drop (k + 1) ts) f.behind)
+Beside f ts k p n = (p ≡ latest f.before.0 (take k ts)) × (n ≡ nearest (drop (k + 1) ts) f.behind.0)

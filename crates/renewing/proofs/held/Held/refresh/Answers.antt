@@ -3,25 +3,27 @@
 use mathlib.Core.Path.{◌≡◌}
 use Prim.Native.Nat.{◌+◌, ◌<◌}
 use lib.ListN.{length, take, drop}
-use Rattle.shapes.specs.Joining.{latest, nearest, line_types}
-use Rattle.lines.specs.Held.{Line, line_of}
+use Rattle.shapes.specs.Joining.{latest, nearest}
+use Rattle.lines.specs.Held.{Line}
+use Rattle.joining.specs.Known.{known_types}
+use Rattle.renewing.specs.Held.{held_now}
 use Rattle.renewing.proofs.HeldLaws.{renewed-held, line-touched}
 use Rattle.renewing.proofs.SeenLaws.{seen_beyond, seen-ahead, seen_back}
-use Rattle.renewing.proofs.refresh.Goals as goal
-use Rattle.renewing.proofs.refresh.Goals.{After-past-seen_ahead, Start}
+use Rattle.renewing.proofs.held.Held.refresh.Goals as goal
+use Rattle.renewing.proofs.held.Held.refresh.Goals.{After-past-seen_ahead, Start}
 
 -- what the call was given
 abbrev line : Start → Line
-line s = let a = s.args in line_of a.codes.now a.types.now a.categories.now a.base.now a.actions.now a.masks.now
+line s = let a = s.args in held_now a.self.now a.actions a.masks
 
 -- what the letter behind the place sees before it, and what the one before the place sees behind it
-back : (c : After-past-seen_ahead) → let a = c.args in c.past-seen_back.result ≡ latest a.frame.before (take c.letter_from-n.result.place (line_types a.types.now a.categories.now))
+back : (c : After-past-seen_ahead) → let held = c.args.self.now in c.past-seen_back.result.0 ≡ latest held.frame.before.0 (take c.letter_from-n.result.place (known_types held.letters))
 back c =
-    seen_back c.requires.renewable.letters c.args.k _ c.requires.k_in_bounds c.type_at-t.ensures c.args.frame.before _ _ _ c.letter_before-q.ensures.letter c.letter_from-n.ensures.place c.past-seen_back.ensures
+    seen_back c.requires.renewable.letters c.args.k _ c.requires.k_in_bounds c.type_at-t.ensures c.args.self.now.frame.before.0 _ _ _ c.letter_before-q.ensures.letter c.letter_from-n.ensures.place c.past-seen_back.ensures
 
-ahead : (c : After-past-seen_ahead) → let a = c.args in let q = c.letter_before-q.result.place in q < length a.types.now → c.past-seen_ahead.result ≡ nearest (drop (q + 1) (line_types a.types.now a.categories.now)) a.frame.behind
+ahead : (c : After-past-seen_ahead) → let held = c.args.self.now in let q = c.letter_before-q.result.place in q < length held.letters.types.now → c.past-seen_ahead.result.0 ≡ nearest (drop (q + 1) (known_types held.letters)) held.frame.behind.0
 ahead c =
-    seen-ahead c.requires.renewable.letters c.args.k _ c.requires.k_in_bounds c.type_at-t.ensures c.args.frame.behind _ _ _ c.letter_before-q.ensures.place c.letter_from-n.ensures.letter c.past-seen_ahead.ensures
+    seen-ahead c.requires.renewable.letters c.args.k _ c.requires.k_in_bounds c.type_at-t.ensures c.args.self.now.frame.behind.0 _ _ _ c.letter_before-q.ensures.place c.letter_from-n.ensures.letter c.past-seen_ahead.ensures
 
 pub renew-requires : goal.renew-requires
 renew-requires c =
@@ -44,4 +46,4 @@ renew-requires-3 c =
 
 pub returns : goal.returns
 returns c =
-    line-touched c.args.frame (line (search)) _ _ _ c.args.k _ _ c.letter_before-q.ensures.place c.letter_from-n.ensures.place c.renew.ensures c.renew-2.ensures c.renew-3.ensures
+    line-touched c.args.self.now.frame (line (search)) _ _ _ c.args.k _ _ c.letter_before-q.ensures.place c.letter_from-n.ensures.place c.renew.ensures c.renew-2.ensures c.renew-3.ensures

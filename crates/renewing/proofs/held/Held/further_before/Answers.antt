@@ -1,0 +1,10 @@
+-- `renewing::further_before` meets its contract.
+-- Assumes nothing.
+use borrow.Author.Tests.{lt-ltb, le-ltb}
+use Rattle.renewing.proofs.held.Held.further_before.Goals as goal
+
+pub returns-then-k-self : goal.returns-then-k-self
+returns-then-k-self c = simp (lt-ltb _ _ c.if-k-self.true) c.letter_before.ensures.letter
+
+pub returns : goal.returns
+returns c = simp (le-ltb _ _ c.if-k-self.false)

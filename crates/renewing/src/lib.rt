@@ -6,6 +6,7 @@ ghost use Rattle.std.specs.Prelude.{◌≡◌, cond, ◌+◌, ◌<◌, ◌≤◌
 ghost use Rattle.shapes.specs.Joining.{passed, latest, nearest};
 ghost use Rattle.selectors.specs.Selectors.{run, base as base_of};
 ghost use Rattle.joining.specs.Known.{known_types};
+ghost use Rattle.lines.specs.Held.{line_mut_now, line_mut_lent};
 ghost use Rattle.lines.specs.Joined.{actions_between};
 ghost use Rattle.renewing.specs.Renewed.{reached, touched, renewed, span, mask_at, renewed_line};
 ghost use Rattle.renewing.specs.Renewable.{Renewable, Beside};
@@ -13,8 +14,10 @@ ghost use Rattle.renewing.specs.Held.{held_now, held_lent};
 
 mod held;
 
-pub use held::Held;
+use held::Held;
+use joining::KnownLetters;
 use letters::{Action, JoiningType};
+use lines::Frame;
 
 // The records from `k` to before `end` get an action, and their masks by it.
 fn put(
@@ -140,7 +143,7 @@ impl Held<'_> {
     }
 
     // The letter at `k` is new: it, the letters beside it and the runs of selectors behind them get what fresh joining gives.
-    pub fn refresh(&self, k: usize, actions: &mut [u8], masks: &mut [u32])
+    fn refresh(&self, k: usize, actions: &mut [u8], masks: &mut [u32])
         requires renewable { Renewable self.now.frame (held_now self.now actions masks) }
         requires k_in_bounds { k < length self.now.letters.types.now }
         ensures { let held = self.entry.now in
@@ -159,4 +162,31 @@ impl Held<'_> {
         self.renew(q.place, back, seen_ahead, actions, masks);
         self.renew(k, q.letter, n.letter, actions, masks);
     }
+}
+
+// The same of a line that is lent by its columns. A held line is made here, where its columns are lent for one time: its codes and letters may have
+// been lent to be written before.
+pub fn refresh<'a>(
+    codes: &'a [u32],
+    types: &'a [u8],
+    categories: &'a [u8],
+    base: &'a [u32],
+    frame: Frame,
+    k: usize,
+    actions: &mut [u8],
+    masks: &mut [u32],
+)
+    requires renewable { Renewable frame (line_mut_now codes types categories base actions masks) }
+    requires k_in_bounds { k < length types.now }
+    ensures { let l = line_mut_lent codes types categories base actions masks in
+        l.exit ≡ renewed_line frame (touched frame l.entry k) l.entry }
+{
+    let letters = KnownLetters { types, categories };
+    let held = Held {
+        codes,
+        letters,
+        base,
+        frame,
+    };
+    held.refresh(k, actions, masks);
 }

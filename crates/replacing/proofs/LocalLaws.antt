@@ -166,10 +166,10 @@ module _ (f : Frame) (l : Line) (p j : ℕ) (within : p ≤ length (types_of l.l
 -- the action of a record is that of the letter where it rests
 fresh-rests :
     (f : Frame) (l : Line) (k j : ℕ) → Rests (marks f l) k j → j < length (types_of l.letters)
-    → get_or (fresh_actions f l) j 0 ≡ get_or (each_between form f.before (types_of l.letters) f.behind) k 0
+    → get_or (fresh_actions f l) j 0 ≡ get_or (each_between form f.before.0 (types_of l.letters) f.behind.0) k 0
 fresh-rests f l k j rest h =
-    settled-rests f.mongolian l.codes (each_between form f.before (types_of l.letters) f.behind) k j rest
-    (omega (arith, length-each form f.before (types_of l.letters) f.behind))
+    settled-rests f.mongolian l.codes (each_between form f.before.0 (types_of l.letters) f.behind.0) k j rest
+    (omega (arith, length-each form f.before.0 (types_of l.letters) f.behind.0))
 
 -- and so it is none above the joined ones
 pub fresh-most : (f : Frame) (l : Line) (j : ℕ) → j < length (types_of l.letters) → get_or (fresh_actions f l) j 0 ≤ none
@@ -178,7 +178,7 @@ fresh-most f l j h = at (rests (marks f l) j)
     at : ((k : ℕ) × Rests (marks f l) k j) → get_or (fresh_actions f l) j 0 ≤ none
     at (k, rest) =
         rw (fresh-rests f l k j rest h)
-        (at_most-at none (each_between form f.before (types_of l.letters) f.behind) (each-most f.before (types_of l.letters) f.behind) k)
+        (at_most-at none (each_between form f.before.0 (types_of l.letters) f.behind.0) (each-most f.before.0 (types_of l.letters) f.behind.0) k)
 
 module _ (f : Frame) (r : Request) (l : Line) where
   types-changed : types_of (changed r l).letters ≡ set (types_of l.letters) r.place (resolved r.type r.category)
@@ -223,7 +223,7 @@ module _ (f : Frame) (r : Request) (l : Line) where
               ⊎_elim
               (λ same. inl (fresh-rests f (changed r l) k j moved (omega (arith, length-changed)) ∙ rw types-changed (same ∙ sym (fresh-rests f l k j rest h))))
               (λ w. inr (record { root = k; near = inr w; reaches = rest.reaches }))
-              (each_set form (λ p n q m. form-transparent p n ∙ sym (form-transparent q m)) f.before (types_of l.letters) f.behind r.place (resolved r.type r.category) k (omega arith) apart)
+              (each_set form (λ p n q m. form-transparent p n ∙ sym (form-transparent q m)) f.before.0 (types_of l.letters) f.behind.0 r.place (resolved r.type r.category) k (omega arith) apart)
 
   -- a record that the new letter does not touch
   module _ (j : ℕ) (h : j < length (types_of l.letters)) (within : r.place ≤ length (types_of l.letters)) (not : touched f (changed r l) r.place j ≡ false) where

@@ -4,8 +4,7 @@
 -- Assumes nothing.
 use Rattle.std.specs.Prelude.{◌≡◌, Bool, not, ◌&&◌, ◌||◌, List, [], ◌∷◌, ℕ, leb, ltb, length, set}
 use Rattle.laws.specs.Rows.{Row, Given, first}
-use Rattle.refusals.specs.declared.Verdict.{Verdict}
-use Rattle.refusals.specs.Numbers.{said}
+use Rattle.refusals.specs.Numbers.{said, Verdict}
 use Rattle.refusals.specs.Columns.{at_most}
 use Rattle.refusals.specs.Left.{Left, After, leaves}
 use Rattle.letters.specs.Types.{X}

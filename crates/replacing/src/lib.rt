@@ -8,12 +8,13 @@ ghost use Rattle.lines.specs.Held.{setting_now, line_all_mut_now, manner_of, set
 ghost use Rattle.lines.specs.Joined.{frame_of};
 ghost use Rattle.replacing.specs.Replaced.{asked, replaced_line, replace_rows, replace_refusal, Replacing};
 
+use joining::KnownLetters;
 use letters::{Action, Category, Code, JoiningType};
-use lines::{Frame, Manner};
+use lines::{Frame, LentLetters, Manner};
 use refusals::{Refusal, Verdict};
 
 // What is asked for: a place, and the letter that comes to stand there.
-#[derive(Clone, Copy)]
+#[derive(Clone, Copy, Debug, PartialEq, Eq)]
 pub struct Request {
     pub place: usize,
     pub code: Code,
@@ -22,15 +23,15 @@ pub struct Request {
 }
 
 // Replaces a letter where it is not refused.
-fn replace_accepted(
+fn replace_accepted<'a>(
     codes: &mut [u32],
     types: &mut [u8],
     categories: &mut [u8],
-    pre_types: &[u8],
-    pre_categories: &[u8],
-    post_types: &[u8],
-    post_categories: &[u8],
-    base: &[u32],
+    pre_types: &'a [u8],
+    pre_categories: &'a [u8],
+    post_types: &'a [u8],
+    post_categories: &'a [u8],
+    base: &'a [u32],
     manner: Manner,
     actions: &mut [u8],
     masks: &mut [u32],
@@ -49,23 +50,25 @@ fn replace_accepted(
     codes[place] = request.code.0;
     types[place] = request.joining_type.0;
     categories[place] = request.category.0;
-    let before = joining::first_letter(pre_types, pre_categories);
-    let behind = joining::first_letter(post_types, post_categories);
+    let pre = KnownLetters {
+        types: pre_types,
+        categories: pre_categories,
+    };
+    let post = KnownLetters {
+        types: post_types,
+        categories: post_categories,
+    };
+    let before = pre.first();
+    let behind = post.first();
     let features = manner.features;
+    let frame = Frame {
+        before,
+        behind,
+        features,
+        mongolian: manner.mongolian,
+    };
     renewing::refresh(
-        codes,
-        types,
-        categories,
-        base,
-        Frame {
-            before,
-            behind,
-            features,
-            mongolian: manner.mongolian,
-        },
-        place,
-        actions,
-        masks,
+        codes, types, categories, base, frame, place, actions, masks,
     );
 }
 
@@ -89,20 +92,21 @@ fn refused(
         said result ≡ first (replace_rows s (asked request) l.entry) }
 {
     let line_even = lines::even_line(codes, types, categories, base, actions, masks);
-    let line = lines::refused(
-        line_even,
-        types,
-        categories,
-        pre_types,
-        pre_categories,
-        post_types,
-        post_categories,
-    );
+    let letters = LentLetters { types, categories };
+    let pre = LentLetters {
+        types: pre_types,
+        categories: pre_categories,
+    };
+    let post = LentLetters {
+        types: post_types,
+        categories: post_categories,
+    };
+    let line = lines::refused(line_even, letters, pre, post);
     let known = refusals::within(actions, Action::REPEATING.0)
         & ((request.joining_type.0 <= JoiningType::X.0) & (request.category.0 <= Category::ZS.0));
     let strange = refusals::unless(known, Refusal::OutOfRange);
     let outside = refusals::unless(request.place < types.len(), Refusal::Place);
-    line.sooner(strange.sooner(outside))
+    refusals::sooner(line, refusals::sooner(strange, outside))
 }
 
 // Replaces the letter at a place of a held line: writes its code, type and category, and the actions and masks that go by it. The contexts have
@@ -125,7 +129,7 @@ pub fn replace_letter(
         let l = line_all_mut_lent codes types categories base actions masks in
         Replacing s (asked request) l.entry result l.exit }
 {
-    let verdict = refused(
+    refused(
         codes,
         types,
         categories,
@@ -137,10 +141,7 @@ pub fn replace_letter(
         actions,
         masks,
         request,
-    );
-    if verdict.number() != 0 {
-        return verdict;
-    }
+    )?;
     replace_accepted(
         codes,
         types,
@@ -155,5 +156,5 @@ pub fn replace_letter(
         masks,
         request,
     );
-    verdict
+    Ok(())
 }

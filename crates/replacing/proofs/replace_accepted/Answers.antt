@@ -42,19 +42,19 @@ bounds-types-place c = (given (search)).inside
 pub bounds-categories-place : goal.bounds-categories-place
 bounds-categories-place c = let g = given (search) in omega (arith, g.inside, g.line.line.even)
 
-pub first_letter-before-requires : goal.first_letter-before-requires
-first_letter-before-requires c = (given (search)).line.pre
+pub invariant_of-pre : goal.invariant_of-pre
+invariant_of-pre c = record { joinable = (given (search)).line.pre }
 
-pub first_letter-behind-requires : goal.first_letter-behind-requires
-first_letter-behind-requires c = (given (search)).line.post
+pub invariant_of-post : goal.invariant_of-post
+invariant_of-post c = record { joinable = (given (search)).line.post }
 
 pub refresh-requires : goal.refresh-requires
 refresh-requires c =
     record {
-      renewable = rw (c.first_letter-before.ensures, c.first_letter-behind.ensures) (changed-held (given (search)) (seven (search)));
+      renewable = rw (c.first-before.ensures, c.first-behind.ensures) (changed-held (given (search)) (seven (search)));
       k_in_bounds = simp length-set (given (search)).inside;
     }
 
 pub returns : goal.returns
 returns c =
-    c.refresh.ensures ∙ rw (c.first_letter-before.ensures, c.first_letter-behind.ensures) refl
+    c.refresh.ensures ∙ rw (c.first-before.ensures, c.first-behind.ensures) refl

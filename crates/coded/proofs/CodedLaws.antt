@@ -12,8 +12,7 @@ use borrow.Author.Tests.{eq-eqb, leb-true, not-false}
 use Rattle.laws.specs.Rows.{Row, Given, first}
 use Rattle.laws.proofs.RowLaws.{first-none}
 use Rattle.laws.proofs.TestLaws.{both}
-use Rattle.refusals.specs.Numbers.{said}
-use Rattle.refusals.specs.declared.Verdict.{Verdict}
+use Rattle.refusals.specs.Numbers.{said, Verdict}
 use Rattle.listed.specs.Rows.{type_in}
 use Rattle.listed.specs.Listed.{listed}
 use Rattle.lines.specs.Held.{Setting, Line, setting_of, line_of}

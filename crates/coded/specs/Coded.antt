@@ -7,8 +7,7 @@ use Rattle.std.specs.Prelude.{◌≡◌, Bool, not, ◌&&◌, List, [], ◌∷�
 use denote.Triple.Both.{Both}
 use Rattle.laws.specs.Rows.{Row, Given}
 use Rattle.laws.specs.Lent.{Slice, Borrowed, SliceMut, BorrowedMut}
-use Rattle.refusals.specs.declared.Verdict.{Verdict}
-use Rattle.refusals.specs.Numbers.{said}
+use Rattle.refusals.specs.Numbers.{said, Verdict}
 use Rattle.refusals.specs.Columns.{line_limit}
 use Rattle.refusals.specs.Left.{Left, After}
 use Rattle.listed.specs.Rows.{type_in}

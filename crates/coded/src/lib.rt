@@ -17,8 +17,11 @@ use replacing::Request;
 // Letters of a context, at most, and of a line that is given the smaller room.
 const SHORT: usize = 64;
 
+// Records of a line that is given the larger room, at most.
+const LONG: usize = refusals::LINE_LIMIT;
+
 // What is asked for: a place, and the letter that comes to stand there.
-#[derive(Clone, Copy)]
+#[derive(Clone, Copy, Debug, PartialEq, Eq)]
 pub struct CodeRequest {
     pub place: usize,
     pub code: Code,
@@ -42,13 +45,13 @@ fn measured(
     let even = ((codes == categories) & ((codes == base) & ((codes == actions) & (codes == masks))))
         & ((pre_codes == pre_categories) & (post_codes == post_categories));
     if !even {
-        return Verdict::Refused(Refusal::Uneven);
+        return Err(Refusal::Uneven);
     }
     let short = (codes <= refusals::LINE_LIMIT) & ((pre_codes <= SHORT) & (post_codes <= SHORT));
     if !short {
-        return Verdict::Refused(Refusal::TooLong);
+        return Err(Refusal::TooLong);
     }
-    Verdict::Accepted
+    Ok(())
 }
 
 // The types of codes, at the start of a room lent for them; answers that part of it.
@@ -100,6 +103,44 @@ fn join_typed(
     )
 }
 
+// Makes rooms for the types, for `ROOM` letters of the line, and joins.
+fn join_in<const ROOM: usize>(
+    codes: &[u32],
+    categories: &[u8],
+    pre_codes: &[u32],
+    pre_categories: &[u8],
+    post_codes: &[u32],
+    post_categories: &[u8],
+    base: &[u32],
+    manner: Manner,
+    actions: &mut [u8],
+    masks: &mut [u32],
+) -> Verdict
+    requires { (ROOM ≤ 4096) × (length codes.now ≤ ROOM) × (length pre_codes.now ≤ 64) × (length post_codes.now ≤ 64) }
+    ensures { let s = coded_setting_lent pre_codes pre_categories post_codes post_categories manner in
+        let l = coded_line_mut_lent codes categories base actions masks in
+        JoiningCodes s l.entry result l.exit }
+{
+    let mut types = [0u8; ROOM];
+    let mut pre_types = [0u8; SHORT];
+    let mut post_types = [0u8; SHORT];
+    join_typed(
+        codes,
+        categories,
+        pre_codes,
+        pre_categories,
+        post_codes,
+        post_categories,
+        base,
+        manner,
+        actions,
+        masks,
+        &mut types,
+        &mut pre_types,
+        &mut post_types,
+    )
+}
+
 // Joins a line by codes and categories: writes the action and the mask of each record. The contexts have their nearest letters first.
 pub fn join_codes(
     codes: &[u32],
@@ -128,14 +169,9 @@ pub fn join_codes(
         post_codes.len(),
         post_categories.len(),
     );
-    if verdict.number() != 0 {
-        return verdict;
-    }
-    let mut pre_types = [0u8; SHORT];
-    let mut post_types = [0u8; SHORT];
+    verdict?;
     if codes.len() <= SHORT {
-        let mut types = [0u8; SHORT];
-        return join_typed(
+        return join_in::<SHORT>(
             codes,
             categories,
             pre_codes,
@@ -146,13 +182,9 @@ pub fn join_codes(
             manner,
             actions,
             masks,
-            &mut types,
-            &mut pre_types,
-            &mut post_types,
         );
     }
-    let mut types = [0u8; refusals::LINE_LIMIT];
-    join_typed(
+    join_in::<LONG>(
         codes,
         categories,
         pre_codes,
@@ -163,9 +195,6 @@ pub fn join_codes(
         manner,
         actions,
         masks,
-        &mut types,
-        &mut pre_types,
-        &mut post_types,
     )
 }
 
@@ -218,6 +247,46 @@ fn replace_typed(
     )
 }
 
+// Makes rooms for the types, for `ROOM` letters of the line, and replaces.
+fn replace_in<const ROOM: usize>(
+    codes: &mut [u32],
+    categories: &mut [u8],
+    pre_codes: &[u32],
+    pre_categories: &[u8],
+    post_codes: &[u32],
+    post_categories: &[u8],
+    base: &[u32],
+    manner: Manner,
+    actions: &mut [u8],
+    masks: &mut [u32],
+    request: CodeRequest,
+) -> Verdict
+    requires { (ROOM ≤ 4096) × (length codes.old ≤ ROOM) × (length pre_codes.now ≤ 64) × (length post_codes.now ≤ 64) }
+    ensures { let s = coded_setting_lent pre_codes pre_categories post_codes post_categories manner in
+        let l = coded_line_all_mut_lent codes categories base actions masks in
+        ReplacingCodes s (asked_for request) l.entry result l.exit }
+{
+    let mut types = [0u8; ROOM];
+    let mut pre_types = [0u8; SHORT];
+    let mut post_types = [0u8; SHORT];
+    replace_typed(
+        codes,
+        categories,
+        pre_codes,
+        pre_categories,
+        post_codes,
+        post_categories,
+        base,
+        manner,
+        actions,
+        masks,
+        request,
+        &mut types,
+        &mut pre_types,
+        &mut post_types,
+    )
+}
+
 // Replaces the letter at a place of a held line by a code and a category: writes these, and the actions and masks that go by them. Contexts, feature
 // masks and script are those that the line was joined with: where they change, join it again.
 pub fn replace_code(
@@ -248,14 +317,9 @@ pub fn replace_code(
         post_codes.len(),
         post_categories.len(),
     );
-    if lengths.number() != 0 {
-        return lengths;
-    }
-    let mut pre_types = [0u8; SHORT];
-    let mut post_types = [0u8; SHORT];
+    lengths?;
     if codes.len() <= SHORT {
-        let mut types = [0u8; SHORT];
-        return replace_typed(
+        return replace_in::<SHORT>(
             codes,
             categories,
             pre_codes,
@@ -267,13 +331,9 @@ pub fn replace_code(
             actions,
             masks,
             request,
-            &mut types,
-            &mut pre_types,
-            &mut post_types,
         );
     }
-    let mut types = [0u8; refusals::LINE_LIMIT];
-    replace_typed(
+    replace_in::<LONG>(
         codes,
         categories,
         pre_codes,
@@ -285,8 +345,5 @@ pub fn replace_code(
         actions,
         masks,
         request,
-        &mut types,
-        &mut pre_types,
-        &mut post_types,
     )
 }

@@ -67,9 +67,7 @@ fn replace_accepted<'a>(
         features,
         mongolian: manner.mongolian,
     };
-    renewing::refresh(
-        codes, types, categories, base, frame, place, actions, masks,
-    );
+    renewing::refresh(codes, types, categories, base, frame, place, actions, masks);
 }
 
 // The refusal of a request: old actions and the new letter are tested here, the line and its contexts as for joining. Feature masks and

@@ -36,11 +36,11 @@ returns-then-bytes-p-lt2 c =
 pub may_have-requires : goal.may_have-requires
 may_have-requires c =
     let g = c.loop-i.invariant in
-    (c.requires.1, omega (arith, c.from-c.ensures, c.u16_at.type_inv), omega (arith, g.small, g.upto, c.requires.2), omega (arith, g.places, c.requires.3, c.loop-i-test.true))
+    (omega (arith, c.from-c.ensures, c.u16_at.type_inv), omega (arith, g.small, g.upto, c.requires.2), omega (arith, g.places, c.requires.3, c.loop-i-test.true))
 
 pub set-requires : goal.set-requires
 set-requires c =
-    (omega (arith, c.loop-i.invariant.within, c.if-bytes-p-lt2.false), c.requires.0, c.requires.1, omega (arith, c.from-c.ensures, c.u16_at.type_inv))
+    (omega (arith, c.loop-i.invariant.within, c.if-bytes-p-lt2.false), c.requires.0, omega (arith, c.from-c.ensures, c.u16_at.type_inv))
 
 pub returns-in_err-p : goal.returns-in_err-p
 returns-in_err-p c =

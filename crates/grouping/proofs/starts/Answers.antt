@@ -15,7 +15,7 @@ returns-in_err-p c =
 
 pub later-requires : goal.later-requires
 later-requires c =
-    (c.in_ok-p.ensures.place.1, c.requires.1, omega (arith, c.requires.2))
+    (c.in_ok-p.ensures.place.1, omega (arith, c.requires.2))
 
 pub returns : goal.returns
 returns c =

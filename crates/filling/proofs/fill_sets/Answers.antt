@@ -70,7 +70,7 @@ overflow_add-p-in-loop-k-2 c = omega (arith, (near (goal.at.overflow_add-p-in-lo
 pub fill_rules-requires : goal.fill_rules-requires
 fill_rules-requires c =
     let f = fits (goal.at.fill_rules-requires c).After-u16_at-lead in
-    (c.requires.le_n.0, c.requires.le_n.1, omega (arith, f.0), omega (arith, f.1.0), omega (arith, f.1.1))
+    (omega (arith, f.0), omega (arith, f.1.0), omega (arith, f.1.1))
 
 pub overflow_mul-p-in-loop-k : goal.overflow_mul-p-in-loop-k
 overflow_mul-p-in-loop-k c =

@@ -8,46 +8,115 @@ ghost use Rattle.scanning.specs.Grammar.{is_size_lem, later, starts};
 ghost use Rattle.accepting.specs.Scanned.{Took, these};
 ghost use Rattle.grouping.specs.Grouped.{starts_at, may_have_lem, RuleTaken, RulesTaken, SetTaken, SetsTaken};
 
-use accepting::Scanned;
+use accepting::{Fault, Scanned};
 
-// Whether a set of rules of `n` components may take `size` bytes.
-fn is_size(n: usize, size: usize) -> bool
-    requires { (n ≤ 3) × (size < 65536) }
-    ensures { result ≡ is_size_lem n size }
+// `c` words from `first` on, each `by` above the one before.
+fn evenly(c: usize, first: usize, by: usize, bytes: &[u8], at: usize) -> Scanned
+    requires { (at ≤ length bytes.now) × (first + c * by < 1048576) }
+    ensures { Took (these (evenly c first by)) tt (at + 2 * c) bytes.now at result }
 {
-    if size < 2 {
-        return false;
+    let mut o = first;
+    for i in 0..c {
+        let p = at + 2 * i;
+        if bytes.len() - p < 2 {
+            return Err(Fault::Short);
+        }
+        if usize::from(words::u16_at(bytes, p)) != o {
+            return Err(Fault::Wrong(p));
+        }
+        o += by;
     }
-    let each = 4 + 2 * n;
-    let c = (size - 2) / each;
-    (2 + c * each == size) & (1 <= c)
+    Ok(at + 2 * c)
 }
 
-// Where `count` sets begin that lie behind one at byte `start`: each a set's size behind the one before, with room for those to come.
-fn later(n: usize, count: usize, start: usize, bytes: &[u8], at: usize) -> Scanned
-    requires { (at ≤ length bytes.now) × (n ≤ 3) × (count < 65536) }
-    ensures { Took (later n count start) (words_at bytes.now at count) (at + 2 * count) bytes.now at result }
-{
-    let mut left = count;
-    let mut o = start;
-    let mut p = at;
-    while 0 < left {
-        if bytes.len() - p < 2 {
-            return Scanned::Short;
+// The bytes of a ligature lookup whose rules have `n` components, few enough.
+#[derive(Clone, Copy)]
+struct Ligatures<'a> {
+    n: usize,
+    bytes: &'a [u8],
+    ghost few: { n ≤ 3 },
+}
+
+impl Ligatures<'_> {
+    // Whether a set of rules of `n` components may take `size` bytes.
+    fn is_size(self, size: usize) -> bool
+        requires { size < 65536 }
+        ensures { result ≡ is_size_lem self.entry.n size }
+    {
+        if size < 2 {
+            return false;
         }
-        left -= 1;
-        let w = words::u16_at(bytes, p) as usize;
-        if w < o {
-            return Scanned::Wrong(p);
-        }
-        if is_size(n, w - o) & (w + left * (6 + 2 * n) < 65536) {
-            o = w;
-            p += 2;
-        } else {
-            return Scanned::Wrong(p);
-        }
+        let each = 4 + 2 * self.n;
+        let c = (size - 2) / each;
+        (2 + c * each == size) & (1 <= c)
     }
-    Scanned::At(p)
+
+    // Where `count` sets begin that lie behind one at byte `start`: each a set's size behind the one before, with room for those to come.
+    fn later(self, count: usize, start: usize, at: usize) -> Scanned
+        requires { (at ≤ length self.bytes.now) × (count < 65536) }
+        ensures { Took (later self.entry.n count start) (words_at self.entry.bytes.now at count) (at + 2 * count) self.entry.bytes.now at result }
+    {
+        let mut o = start;
+        for i in 0..count {
+            let p = at + 2 * i;
+            if self.bytes.len() - p < 2 {
+                return Err(Fault::Short);
+            }
+            let left = count - 1 - i;
+            let w = usize::from(words::u16_at(self.bytes, p));
+            if w < o {
+                return Err(Fault::Wrong(p));
+            }
+            if self.is_size(w - o) & (w + left * (6 + 2 * self.n) < 65536) {
+                o = w;
+            } else {
+                return Err(Fault::Wrong(p));
+            }
+        }
+        Ok(at + 2 * count)
+    }
+
+    // A rule: its ligature, the number of its components, the components behind the first.
+    fn rule(self, at: usize) -> Scanned
+        requires { (at ≤ length self.bytes.now) × (0 < self.n) }
+        ensures { RuleTaken self.entry.n self.entry.bytes.now at result }
+    {
+        let p = accepting::several(1, self.bytes, at)?;
+        let q = accepting::exactly(&[self.n as u16], self.bytes, p)?;
+        accepting::several(self.n - 1, self.bytes, q)
+    }
+
+    // `c` rules, one behind the other.
+    fn rules(self, c: usize, at: usize) -> Scanned
+        requires { (at ≤ length self.bytes.now) × (0 < self.n) }
+        ensures { RulesTaken self.entry.n c self.entry.bytes.now at result }
+    {
+        let mut p = at;
+        for i in 0..c {
+            p = self.rule(p)?;
+        }
+        Ok(p)
+    }
+
+    // What stands behind the count of a set of `c` rules: where they begin, and they.
+    fn set(self, c: usize, at: usize) -> Scanned
+        requires { (at ≤ length self.bytes.now) × (0 < self.n) × (c < 65536) }
+        ensures { SetTaken self.entry.n c self.entry.bytes.now at result }
+    {
+        let p = evenly(c, 2 + 2 * c, 2 + 2 * self.n, self.bytes, at)?;
+        self.rules(c, p)
+    }
+
+    // Whether a set at byte `o` may have `c` rules, with `left` sets behind it, the next of which says at byte `at` where it begins.
+    fn may_have(self, c: usize, o: usize, left: usize, at: usize) -> bool
+        requires { (c < 65536) × (o < 17179869184) × (at + 2 * left ≤ length self.bytes.now) }
+        ensures { result ≡ may_have_lem self.entry.n o (words_at self.entry.bytes.now at left) c }
+    {
+        if left == 0 {
+            return (1 <= c) & (c <= (65535 + 2 * self.n) / (4 + 2 * self.n));
+        }
+        o + (2 + c * (4 + 2 * self.n)) == usize::from(words::u16_at(self.bytes, at))
+    }
 }
 
 // Where `s` sets begin.
@@ -56,95 +125,12 @@ pub fn starts(n: usize, s: usize, bytes: &[u8], at: usize) -> Scanned
     ensures { Took (starts n s) (starts_at (10 + 4 * s) s bytes.now (at + 2)) (at + 2 * s) bytes.now at result }
 {
     if s == 0 {
-        return Scanned::At(at);
+        return Ok(at);
     }
     let start = 10 + 4 * s;
-    let words = [start as u16];
-    let first = accepting::exactly(&words, bytes, at);
-    let Scanned::At(p) = first else {
-        return first;
-    };
-    later(n, s - 1, start, bytes, p)
-}
-
-// `c` words from `first` on, each `by` above the one before.
-fn evenly(c: usize, first: usize, by: usize, bytes: &[u8], at: usize) -> Scanned
-    requires { (at ≤ length bytes.now) × (first + c * by < 1048576) }
-    ensures { Took (these (evenly c first by)) tt (at + 2 * c) bytes.now at result }
-{
-    let mut left = c;
-    let mut o = first;
-    let mut p = at;
-    while 0 < left {
-        if bytes.len() - p < 2 {
-            return Scanned::Short;
-        }
-        if words::u16_at(bytes, p) as usize != o {
-            return Scanned::Wrong(p);
-        }
-        left -= 1;
-        o += by;
-        p += 2;
-    }
-    Scanned::At(p)
-}
-
-// A rule: its ligature, the number of its components, the components behind the first.
-fn rule(n: usize, bytes: &[u8], at: usize) -> Scanned
-    requires { (at ≤ length bytes.now) × (0 < n) × (n ≤ 3) }
-    ensures { RuleTaken n bytes.now at result }
-{
-    let ligature = accepting::several(1, bytes, at);
-    let Scanned::At(p) = ligature else {
-        return ligature;
-    };
-    let numbers = [n as u16];
-    let number = accepting::exactly(&numbers, bytes, p);
-    let Scanned::At(q) = number else {
-        return number;
-    };
-    accepting::several(n - 1, bytes, q)
-}
-
-// `c` rules, one behind the other.
-fn rules(n: usize, c: usize, bytes: &[u8], at: usize) -> Scanned
-    requires { (at ≤ length bytes.now) × (0 < n) × (n ≤ 3) }
-    ensures { RulesTaken n c bytes.now at result }
-{
-    let mut left = c;
-    let mut p = at;
-    while 0 < left {
-        let one = rule(n, bytes, p);
-        let Scanned::At(q) = one else {
-            return one;
-        };
-        left -= 1;
-        p = q;
-    }
-    Scanned::At(p)
-}
-
-// What stands behind the count of a set of `c` rules: where they begin, and they.
-fn set(n: usize, c: usize, bytes: &[u8], at: usize) -> Scanned
-    requires { (at ≤ length bytes.now) × (0 < n) × (n ≤ 3) × (c < 65536) }
-    ensures { SetTaken n c bytes.now at result }
-{
-    let offsets = evenly(c, 2 + 2 * c, 2 + 2 * n, bytes, at);
-    let Scanned::At(p) = offsets else {
-        return offsets;
-    };
-    rules(n, c, bytes, p)
-}
-
-// Whether a set at byte `o` may have `c` rules, with `left` sets behind it, the next of which says at byte `at` where it begins.
-fn may_have(n: usize, c: usize, o: usize, left: usize, bytes: &[u8], at: usize) -> bool
-    requires { (n ≤ 3) × (c < 65536) × (o < 17179869184) × (at + 2 * left ≤ length bytes.now) }
-    ensures { result ≡ may_have_lem n o (words_at bytes.now at left) c }
-{
-    if left == 0 {
-        return (1 <= c) & (c <= (65535 + 2 * n) / (4 + 2 * n));
-    }
-    o + (2 + c * (4 + 2 * n)) == words::u16_at(bytes, at) as usize
+    let p = accepting::exactly(&[start as u16], bytes, at)?;
+    let lookup = Ligatures { n, bytes };
+    lookup.later(s - 1, start, p)
 }
 
 // The sets: their offsets begin at byte 14, their first glyphs stand behind these and the head of the coverage, and they behind the glyphs.
@@ -152,27 +138,21 @@ pub fn sets(n: usize, s: usize, bytes: &[u8]) -> Scanned
     requires { (0 < n) × (n ≤ 3) × (s < 16000) × (18 + 4 * s ≤ length bytes.now) }
     ensures { SetsTaken n s bytes.now result }
 {
-    let mut left = s;
+    let lookup = Ligatures { n, bytes };
     let mut o = 10 + 4 * s;
-    let mut next = 16;
     let mut p = 18 + 4 * s;
-    while 0 < left {
+    for i in 0..s {
         if bytes.len() - p < 2 {
-            return Scanned::Short;
+            return Err(Fault::Short);
         }
-        left -= 1;
-        let c = words::u16_at(bytes, p) as usize;
-        if may_have(n, c, o, left, bytes, next) {
-            let one = set(n, c, bytes, p + 2);
-            let Scanned::At(q) = one else {
-                return one;
-            };
+        let left = s - 1 - i;
+        let c = usize::from(words::u16_at(bytes, p));
+        if lookup.may_have(c, o, left, 16 + 2 * i) {
+            p = lookup.set(c, p + 2)?;
             o += 2 + c * (4 + 2 * n);
-            next += 2;
-            p = q;
         } else {
-            return Scanned::Wrong(p);
+            return Err(Fault::Wrong(p));
         }
     }
-    Scanned::At(p)
+    Ok(p)
 }

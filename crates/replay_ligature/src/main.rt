@@ -24,8 +24,8 @@ fn replay(body: &[u8]) -> Outcome {
         flags[0],
         area,
     );
-    let numbered = cases::same_u8(body, &mut at, &[answer.number()]);
-    let counted = cases::same_u32(body, &mut at, &[cases::narrow(answer.length())]);
+    let numbered = cases::same_u8(body, &mut at, &[refusals::number(&answer)]);
+    let counted = cases::same_u32(body, &mut at, &[cases::narrow(layouts::length(answer))]);
     let written = cases::same_u8(body, &mut at, area);
     let formed = (n.len() == 1) & ((given == 1) & (at == body.len()));
     tallies::judged(formed, numbered & (counted & written))

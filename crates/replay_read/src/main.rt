@@ -29,8 +29,8 @@ fn told(lookup: Lookup) -> Report {
 // What an answer says beside its number: a refused call says nothing.
 fn said(answer: Answer) -> Report {
     match answer {
-        Answer::Read(lookup) => told(lookup),
-        Answer::Refused(_) => Report {
+        Ok(lookup) => told(lookup),
+        Err(_) => Report {
             kind: 0,
             components: 0,
             flags: 0,
@@ -49,7 +49,7 @@ fn replay(body: &[u8]) -> Outcome {
     let substitutes = columns::take_u16(body, &mut at, &mut substitutes_room);
     let answer = reading::read_lookup(bytes, glyphs, substitutes);
     let what = said(answer);
-    let numbered = cases::same_u8(body, &mut at, &[answer.number()]);
+    let numbered = cases::same_u8(body, &mut at, &[refusals::number(&answer)]);
     let named = cases::same_u8(body, &mut at, &[what.kind]);
     let counted = cases::same_u8(body, &mut at, &[what.components]);
     let flagged = cases::same_u16(body, &mut at, &[what.flags]);

@@ -17,8 +17,8 @@ fn replay(body: &[u8]) -> Outcome {
     let substitutes = columns::take_u16(body, &mut at, &mut substitutes_room);
     let area = columns::take_u8(body, &mut at, &mut area_room);
     let answer = singles::serialize_single_lookup(glyphs, substitutes, flags[0], area);
-    let numbered = cases::same_u8(body, &mut at, &[answer.number()]);
-    let counted = cases::same_u32(body, &mut at, &[cases::narrow(answer.length())]);
+    let numbered = cases::same_u8(body, &mut at, &[refusals::number(&answer)]);
+    let counted = cases::same_u32(body, &mut at, &[cases::narrow(layouts::length(answer))]);
     let written = cases::same_u8(body, &mut at, area);
     let formed = (given == 1) & (at == body.len());
     tallies::judged(formed, numbered & (counted & written))

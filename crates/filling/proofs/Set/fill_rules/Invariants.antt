@@ -1,0 +1,6 @@
+use Prim.Native.Nat.{◌+◌, ◌-◌}
+use Rattle.filling.proofs.FillLaws.{Going}
+use Rattle.filling.proofs.Set.fill_rules.Given as goal
+
+abbrev pub invariant-loop-j : goal.invariant-loop-j
+invariant-loop-j l = Going l.self.n l.self.lead l.c l.self.bytes.now l.at l.initial.components l.x l.initial.ligatures l.i (l.i + l.c - l.j) l.p l.y l.j l.components l.ligatures

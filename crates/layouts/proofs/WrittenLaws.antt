@@ -10,31 +10,29 @@ use native.Mathlib.Omega.{arith}
 use borrow.Author.Tests.{not-false, eqb-true, ltb-false, eq-eqb, ne_eqb, lt-ltb, le-ltb}
 use lib.Dec.{eqb, ltb}
 use lib.ListN.{length, drop}
+use Rattle.std.specs.Prelude.{Ok, Err}
 use Rattle.laws.specs.Rows.{Given}
 use Rattle.laws.proofs.RowLaws.{first-none}
 use Rattle.refusals.specs.declared.Refusal.{Refusal}
-use Rattle.refusals.specs.declared.Verdict.TheVariants.{Refused}
-use Rattle.refusals.specs.Numbers.{number_of}
+use Rattle.refusals.specs.Numbers.{number_of, said}
 use Rattle.refusals.proofs.VerdictLaws.{same-said, refused_number}
 use Rattle.refusals.proofs.LeftLaws.{left_refused, left-done}
 use Rattle.words.specs.Words.{bytes, Wrote}
 use Rattle.words.proofs.WordLaws.{length-bytes, paste_front}
 use Rattle.words.proofs.WroteLaws.{ended}
 use Rattle.layouts.specs.declared.Kind.TheVariants.{Ligature}
-use Rattle.layouts.specs.declared.Written.{Written}
-use Rattle.layouts.specs.declared.Written.TheVariants.{Bytes}
 use Rattle.layouts.specs.Lookups.{Lookup, width, known, words_of, fits}
-use Rattle.layouts.specs.Written.{write_outcome, write_refusal, write_number, length_said, Writing}
+use Rattle.layouts.specs.Written.{Written, write_outcome, write_refusal, length_said, Writing}
 
 -- ---- an answer is known by what it says
-pub same_answer : (r u : Written) → write_number r ≡ write_number u → length_said r ≡ length_said u → r ≡ u
-same_answer (Bytes n) (Bytes m) e f = ap Bytes f
-same_answer (Bytes n) (Written.Refused k) e f = absurd (refused_number k (sym e))
-same_answer (Written.Refused k) (Bytes n) e f = absurd (refused_number k e)
-same_answer (Written.Refused k) (Written.Refused l) e f =
-    let v = same-said (Refused k) (Refused l) e in
+pub same_answer : (r u : Written) → said r ≡ said u → length_said r ≡ length_said u → r ≡ u
+same_answer (Ok n) (Ok m) e f = ap Ok f
+same_answer (Ok n) (Err k) e f = absurd (refused_number k (sym e))
+same_answer (Err k) (Ok n) e f = absurd (refused_number k e)
+same_answer (Err k) (Err l) e f =
+    let v = same-said (Err k) (Err l) e in
     let same : k ≡ l = cc in
-    ap Written.Refused same
+    ap Err same
 
 -- ---- when a number is given
 -- "component number other than 2 or 3"
@@ -97,11 +95,11 @@ module _ (l : Lookup) (room : ℕ) where
 
 -- ---- what a call answers and leaves
 module _ (l : Lookup) (area : List ℕ) where
-  pub written_refused : (k : Refusal) → write_refusal l (length area) ≡ number_of k → Writing l area (Written.Refused k) area
+  pub written_refused : (k : Refusal) → write_refusal l (length area) ≡ number_of k → Writing l area (Err k) area
   written_refused k e = left_refused (write_refusal l (length area)) (write_outcome 0 area) _ (number_of k) (sym e) (refused_number k)
 
   -- the words written from the start of the area are at its start, and the area past them is untouched
-  pub written_all : Allowed l (length area) → {left : List ℕ} {n : ℕ} → Wrote area 0 (words_of l) left n [] → Writing l area (Bytes n) left
+  pub written_all : Allowed l (length area) → {left : List ℕ} {n : ℕ} → Wrote area 0 (words_of l) left n [] → Writing l area (Ok n) left
   written_all a {left} {n} w =
       let long : n ≡ 2 * length (words_of l) = omega (arith, w.place) in
       let there : left ≡ bytes (words_of l) ++ drop (2 * length (words_of l)) area =

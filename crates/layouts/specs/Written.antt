@@ -1,12 +1,11 @@
--- The calls that write a lookup: `WriteOutcome`, `write_outcome` what is there afterwards; `write_rows`, `write_refusal` when writing is refused, and with which number; `write_number`, `length_said` what an answer says; `write_after`, `Writing` what a call answers and leaves, of every input.
+-- The calls that write a lookup: `WriteOutcome`, `write_outcome` what is there afterwards; `write_rows`, `write_refusal` when writing is refused, and with which number; `Written`, `length_said` an answer, and the length that it says; `write_after`, `Writing` what a call answers and leaves, of every input.
 -- Assumes nothing.
-use Rattle.std.specs.Prelude.{◌≡◌, not, List, [], ◌∷◌, ◌++◌, ℕ, ◌*◌, eqb, ltb, length, drop}
+use Rattle.std.specs.Prelude.{◌≡◌, not, List, [], ◌∷◌, ◌++◌, ℕ, ◌*◌, eqb, ltb, length, drop, Result, Ok, Err}
 use Rattle.laws.specs.Rows.{Row, Given, first}
-use Rattle.refusals.specs.Numbers.{number_of}
+use Rattle.refusals.specs.declared.Refusal.{Refusal}
+use Rattle.refusals.specs.Numbers.{said}
 use Rattle.refusals.specs.Left.{Left, After, leaves}
 use Rattle.words.specs.Words.{bytes}
-use Rattle.layouts.specs.declared.Written.{Written}
-use Rattle.layouts.specs.declared.Written.TheVariants.{Bytes, Refused}
 use Rattle.layouts.specs.Lookups.{Lookup, width, known, words_of, fits}
 
 -- how many bytes were written, and the area afterwards
@@ -31,14 +30,14 @@ write_rows l room =
 unfoldable pub write_refusal : Lookup → ℕ → ℕ
 write_refusal l room = first (write_rows l room)
 
--- what an answer says; a refusal has its number, and 0 for the length
-abbrev pub write_number : Written → ℕ
-write_number (Bytes n) = 0
-write_number (Refused k) = number_of k
+-- what a writer answers: how many bytes it wrote, or why it wrote none
+abbrev pub Written : Type 0
+Written = Result ℕ Refusal
 
+-- the length that an answer says; a refusal says 0
 abbrev pub length_said : Written → ℕ
-length_said (Bytes n) = n
-length_said (Refused k) = 0
+length_said (Ok n) = n
+length_said (Err k) = 0
 
 -- a refusal leaves the area as it was; else the lookup's bytes are at its start, and the area past them is untouched
 abbrev pub write_after : Lookup → List ℕ → Left WriteOutcome
@@ -48,4 +47,4 @@ write_after l area =
 
 -- the statement of a writer: asked for the lookup l with an area lent, it may answer r and leave the area `left`
 abbrev pub Writing : Lookup → List ℕ → Written → List ℕ → Type 0
-Writing l area r left = After (write_number r) (write_outcome (length_said r) left) ≡ write_after l area
+Writing l area r left = After (said r) (write_outcome (length_said r) left) ≡ write_after l area

@@ -11,7 +11,7 @@ use lib.Dec.{eqb}
 use lib.ListN.{length, get_or}
 use Rattle.refusals.specs.declared.Refusal.TheVariants.{Offset, NoRoom}
 use Rattle.layouts.specs.declared.Kind.TheVariants.{Ligature}
-use Rattle.layouts.specs.declared.Written.TheVariants.{Refused}
+use Rattle.std.specs.Prelude.{Err}
 use Rattle.layouts.specs.Tables.{sets, ligature}
 use Rattle.layouts.specs.Lookups.{lookup_of, known, rules, fits}
 use Rattle.layouts.specs.Extents.{longest, last_from}
@@ -74,21 +74,21 @@ module _ {flags n : ℕ} {cs ls : List ℕ} (l : Lent flags n cs ls) where
 
   -- ---- what is refused, and what is not
   module _ (area : List ℕ) where
-    over : fits (ligature flags n (rules n cs ls)) ≡ false → Writing (lookup_of flags (Ligature n) cs ls) area (Refused Offset) area
+    over : fits (ligature flags n (rules n cs ls)) ≡ false → Writing (lookup_of flags (Ligature n) cs ls) area (Err Offset) area
     over f =
         written_refused (lookup_of flags (Ligature n) cs ls) area Offset
         (offset-given (lookup_of flags (Ligature n) cs ls) (length area) l.shape.flat (in_range l.shape.low l.shape.high) f)
 
-    pub many_refused : 16383 < length ls → Writing (lookup_of flags (Ligature n) cs ls) area (Refused Offset) area
+    pub many_refused : 16383 < length ls → Writing (lookup_of flags (Ligature n) cs ls) area (Err Offset) area
     many_refused h = over (too_many flags n (rules n cs ls) positive l.flags-fit regular l.shape.low (rw (length-rules n cs ls) h))
 
     pub offset_refused :
         {s last : ℕ} → s ≡ length (sets (rules n cs ls)) → last ≡ last_from 0 0 (sets (rules n cs ls)) → 65535 < 8 + 6 * s + last * (4 + 2 * n)
-        → Writing (lookup_of flags (Ligature n) cs ls) area (Refused Offset) area
+        → Writing (lookup_of flags (Ligature n) cs ls) area (Err Offset) area
     offset_refused a b h = over (offset-over flags n (rules n cs ls) positive l.flags-fit regular (rw (a, b) at h))
 
     pub set_refused :
-        {most : ℕ} → most ≡ longest (sets (rules n cs ls)) → 65535 + 2 * n < most * (4 + 2 * n) → Writing (lookup_of flags (Ligature n) cs ls) area (Refused Offset) area
+        {most : ℕ} → most ≡ longest (sets (rules n cs ls)) → 65535 + 2 * n < most * (4 + 2 * n) → Writing (lookup_of flags (Ligature n) cs ls) area (Err Offset) area
     set_refused a h = over (set-over flags n (rules n cs ls) positive l.flags-fit regular (rw a at h))
 
     module _ {s most last : ℕ} (a : s ≡ length (sets (rules n cs ls))) (b : most ≡ longest (sets (rules n cs ls))) (c : last ≡ last_from 0 0 (sets (rules n cs ls))) (h : 8 + 6 * s + last * (4 + 2 * n) ≤ 65535) (g : most * (4 + 2 * n) ≤ 65535 + 2 * n) where
@@ -98,7 +98,7 @@ module _ {flags n : ℕ} {cs ls : List ℕ} (l : Lent flags n cs ls) where
           let set = rw b at g in
           ligature-within flags n (rules n cs ls) positive l.flags-fit regular (omega arith) (omega arith)
 
-      pub room_refused : length area < 18 + 6 * s + length ls * (4 + 2 * n) → Writing (lookup_of flags (Ligature n) cs ls) area (Refused NoRoom) area
+      pub room_refused : length area < 18 + 6 * s + length ls * (4 + 2 * n) → Writing (lookup_of flags (Ligature n) cs ls) area (Err NoRoom) area
       room_refused r =
           written_refused (lookup_of flags (Ligature n) cs ls) area NoRoom
           (room-given (lookup_of flags (Ligature n) cs ls) (length area) l.shape.flat (in_range l.shape.low l.shape.high) all_fit (omega (arith, length-written)))

@@ -218,15 +218,15 @@ fn write_rules(
     let extent = survey(n, components, ligatures);
     let size = 4 + 2 * n;
     if 65535 < 8 + 6 * extent.sets + extent.last * size {
-        return Written::Refused(Refusal::Offset);
+        return Err(Refusal::Offset);
     }
     if 65535 + 2 * n < extent.longest * size {
-        return Written::Refused(Refusal::Offset);
+        return Err(Refusal::Offset);
     }
     if area.len() < 18 + 6 * extent.sets + ligatures.len() * size {
-        return Written::Refused(Refusal::NoRoom);
+        return Err(Refusal::NoRoom);
     }
-    Written::Bytes(put_lookup(n, extent.sets, components, ligatures, flags, area))
+    Ok(put_lookup(n, extent.sets, components, ligatures, flags, area))
 }
 
 // Writes the lookup of the rules that two columns hold, `n` components and a ligature each, at the start of the area, and says how many bytes it has.
@@ -244,13 +244,13 @@ pub fn serialize_ligature_lookup(
     if flat(components.len(), ligatures.len(), width) {
         if (width == 2) | (width == 3) {
             if MOST_RULES < ligatures.len() {
-                return Written::Refused(Refusal::Offset);
+                return Err(Refusal::Offset);
             }
             write_rules(width, components, ligatures, flags, area)
         } else {
-            Written::Refused(Refusal::OutOfRange)
+            Err(Refusal::OutOfRange)
         }
     } else {
-        Written::Refused(Refusal::Uneven)
+        Err(Refusal::Uneven)
     }
 }

@@ -9,10 +9,10 @@ use native.Mathlib.Omega.{arith}
 use borrow.Author.Tests.{le-leb, lt-leb}
 use lib.Dec.{leb}
 use lib.ListN.{length, get_or, length-append}
+use Rattle.std.specs.Prelude.{Ok, Err}
 use Rattle.words.specs.Words.{Wrote}
 use Rattle.words.proofs.WroteLaws.{then, step, frame}
 use Rattle.layouts.specs.declared.Kind.TheVariants.{Single}
-use Rattle.layouts.specs.declared.Written.TheVariants.{Bytes, Refused}
 use Rattle.refusals.specs.declared.Refusal.TheVariants.{Uneven, Offset, NoRoom}
 use Rattle.layouts.specs.Tables.{single}
 use Rattle.layouts.specs.Lookups.{Lookup, lookup_of, fits}
@@ -30,21 +30,21 @@ module _ (flags : ℕ) (gs ss area : List ℕ) where
   even : length gs ≡ length ss → length gs ≡ length ss * 1
   even e = e ∙ sym (mul-one (length ss))
 
-  pub uneven_refused : (length gs ≡ length ss → ⊥) → Writing asked area (Refused Uneven) area
+  pub uneven_refused : (length gs ≡ length ss → ⊥) → Writing asked area (Err Uneven) area
   uneven_refused d = written_refused asked area Uneven (uneven-given asked (length area) (λ e. d (e ∙ mul-one (length ss))))
 
   module _ (e : length gs ≡ length ss) (f : flags < 65536) (g : (i : ℕ) → get_or gs i 0 < 65536) (s : (i : ℕ) → get_or ss i 0 < 65536) where
     fits_if : fits (single flags gs ss) ≡ leb (length ss) 32764
     fits_if = single-fits flags gs ss f (fits-lent gs g) (fits-lent ss s) e
 
-    pub long_refused : 32764 < length ss → Writing asked area (Refused Offset) area
+    pub long_refused : 32764 < length ss → Writing asked area (Err Offset) area
     long_refused h = written_refused asked area Offset (offset-given asked (length area) (even e) refl (fits_if ∙ lt-leb (length ss) 32764 h))
 
     module _ (h : length ss ≤ 32764) where
       few : fits (single flags gs ss) ≡ true
       few = fits_if ∙ le-leb (length ss) 32764 h
 
-      pub room_refused : length area < 18 + 4 * length ss → Writing asked area (Refused NoRoom) area
+      pub room_refused : length area < 18 + 4 * length ss → Writing asked area (Err NoRoom) area
       room_refused r = written_refused asked area NoRoom (room-given asked (length area) (even e) refl few (omega (arith, size-single flags gs ss e)))
 
       -- its head, the substitutes, the coverage's head, the glyphs
@@ -55,7 +55,7 @@ module _ (flags : ℕ) (gs ss area : List ℕ) where
           → Wrote first a ss second b []
           → Wrote second b (1 ∷ length ss ∷ []) third c []
           → Wrote third c gs left end []
-          → Writing asked area (Bytes end) left
+          → Writing asked area (Ok end) left
       unfolding single
       parts-written r {left} {end} p q t u =
           let size = size-single flags gs ss e in

@@ -23,13 +23,13 @@ pub fn serialize_single_lookup(
 {
     let n = substitutes.len();
     if glyphs.len() != n {
-        return Written::Refused(Refusal::Uneven);
+        return Err(Refusal::Uneven);
     }
     if SINGLE_LIMIT < n {
-        return Written::Refused(Refusal::Offset);
+        return Err(Refusal::Offset);
     }
     if area.len() < 18 + 4 * n {
-        return Written::Refused(Refusal::NoRoom);
+        return Err(Refusal::NoRoom);
     }
     let count = n as u16;
     let head = [1, flags, 1, 8, 2, 6 + 2 * count, count];
@@ -38,5 +38,5 @@ pub fn serialize_single_lookup(
     let coverage = [1, count];
     let c = words::put_words(&coverage, area, b);
     let end = words::put_words(glyphs, area, c);
-    Written::Bytes(end)
+    Ok(end)
 }

@@ -1,15 +1,15 @@
 -- Words and their bytes: how many (`length-bytes`, `length-words`); words one behind the other (`bytes-append`, `words_append`); the next word (`one_less`, `words-next`, `words-none`); bytes read give the words that were written (`read_back`), and words read give back the bytes (`bytes_read`);
--- a word of bytes fits (`word_fits`, `words-fit`); a column filled (`paste_front`, `fill_last`).
+-- a word of bytes fits (`word_fits`, `words-fit`); a column filled (`paste_front`, `fill_next`).
 -- Assumes nothing.
 use mathlib.Core.Path.{◌≡◌, refl, sym, ap, ap₂, ◌∙◌}
 use mathlib.Core.List.{List, [], ◌∷◌, ◌++◌}
-use Prim.Native.Nat.{ℕ, zero, suc, ◌+◌, ◌-◌, ◌*◌, ◌/◌, ◌%◌, ◌≤◌, ◌<◌}
+use Prim.Native.Nat.{ℕ, zero, suc, ◌+◌, ◌-◌, ◌*◌, ◌/◌, ◌%◌, ◌<◌}
 use native.Mathlib.Nat.{add-zero, zero-add, suc-add, div-add-mod'}
 use native.Mathlib.Omega.{arith}
 use lib.ListN.{length, set, drop, get_or}
 use lib.Arith.{digits_div, digits_mod}
 use Rattle.laws.specs.Lists.{pasted}
-use Rattle.laws.proofs.PasteLaws.{paste_one, paste_before}
+use Rattle.laws.proofs.PasteLaws.{length-pasted, paste_one, paste_behind}
 use Rattle.words.specs.Words.{bytes, word_at, words_at}
 
 pub length-bytes : (ws : List ℕ) → length (bytes ws) ≡ 2 * length ws
@@ -104,11 +104,10 @@ words-one : (b : List ℕ) (i : ℕ) → words_at b i 1 ≡ word_at b i ∷ []
 unfolding words_at
 words-one b i = refl
 
--- the last of i words is stored, and those before it are to come
-pub fill_last : (b : List ℕ) (at i : ℕ) (l : List ℕ) → 0 < i → i ≤ length l → (w : ℕ) → w ≡ word_at b (at + 2 * (i - 1)) → pasted (words_at b at (i - 1)) 0 (set l (i - 1) w) ≡ pasted (words_at b at i) 0 l
-fill_last b at i l h k w e =
-    let one : i - 1 + 1 ≡ i = omega arith in
-    let long : length (words_at b at (i - 1)) ≡ i - 1 = length-words b at (i - 1) in
-    ap (pasted (words_at b at (i - 1)) 0) (paste_one w (i - 1) l (omega arith))
-    ∙ paste_before (words_at b at (i - 1)) (w ∷ []) l 0 (i - 1) (omega (arith, long)) (omega arith)
-    ∙ ap (λ (x : List ℕ). pasted x 0 l) (ap (λ (v : ℕ). words_at b at (i - 1) ++ (v ∷ [])) e ∙ sym (words_append b at (i - 1) 1 ∙ rw (words-one)) ∙ ap (words_at b at) one)
+-- behind the first i words one more is stored
+pub fill_next : (b : List ℕ) (at i : ℕ) (l : List ℕ) → i < length l → (w : ℕ) → w ≡ word_at b (at + 2 * i) → set (pasted (words_at b at i) 0 l) i w ≡ pasted (words_at b at (i + 1)) 0 l
+fill_next b at i l h w e =
+    let long : length (words_at b at i) ≡ i = length-words b at i in
+    paste_one w i (pasted (words_at b at i) 0 l) (omega (arith, length-pasted (words_at b at i) 0 l (omega (arith, long))))
+    ∙ paste_behind (words_at b at i) (w ∷ []) l 0 i (omega (arith, long)) (omega arith)
+    ∙ ap (λ (x : List ℕ). pasted x 0 l) (ap (λ (v : ℕ). words_at b at i ++ (v ∷ [])) e ∙ sym (words_append b at i 1 ∙ rw (words-one)))

@@ -1,14 +1,15 @@
 -- How far a writer of words has come: it begins (`begin`); one step is after another (`then`); a writer of some words has come that far in more (`frame`, `step`), and has room for them (`room_for`); at the end all is written (`ended`); one word by its bytes (`one_word`);
--- the turns of a loop over a list of words (`next`, `room_next`, `no_more`), and of one that writes eight at once (`eight-words`, `next-eight`, `room-eight`), with those that are left then (`left_behind`).
+-- the turns of a loop over a list of words (`next`, `room_next`, `no_more`), and of one that writes eight at once (`eight_at`, `next-eight`, `room-eight`).
 -- Assumes nothing.
 use mathlib.Core.Path.{◌≡◌, refl, sym, ap, subst, ◌∙◌}
 use mathlib.Core.List.{List, [], ◌∷◌, ◌++◌}
-use Prim.Native.Nat.{ℕ, suc, ◌+◌, ◌-◌, ◌*◌, ◌/◌, ◌%◌, ◌≤◌, ◌<◌}
+use Prim.Native.Nat.{ℕ, zero, suc, ◌+◌, ◌*◌, ◌/◌, ◌%◌, ◌≤◌, ◌<◌}
 use native.Mathlib.Nat.{add-zero}
 use native.Mathlib.Numerals.{add-one}
 use native.Mathlib.Omega.{arith}
 use lib.ListN.{length, length-set, drop_of_length-le, set, take, drop, get_or, length-append, length-drop, take-append-drop}
-use lib.Seq.{take_all, drop-cons, drop-drop, get_or-drop}
+use lib.Seq.{drop-cons, drop-drop}
+use Rattle.std.specs.Simd.{first_chunks}
 use Rattle.laws.specs.Lists.{pasted}
 use Rattle.laws.proofs.PasteLaws.{length-pasted, paste_none, paste_one, paste_behind}
 use Rattle.words.specs.Words.{bytes, Wrote}
@@ -77,24 +78,13 @@ module _ {d : List ℕ} {i : ℕ} {all : List ℕ} {d' : List ℕ} {j : ℕ} (ws
   no_more h p = rw (drop_of_length-le ws {i = k} h) at p
 
 -- ---- eight words at once
-first-eight : (ws : List ℕ) → 8 ≤ length ws → get_or ws 0 0 ∷ get_or ws 1 0 ∷ get_or ws 2 0 ∷ get_or ws 3 0 ∷ get_or ws 4 0 ∷ get_or ws 5 0 ∷ get_or ws 6 0 ∷ get_or ws 7 0 ∷ [] ≡ take 8 ws
-first-eight [] h = absurd (omega arith)
-first-eight (a ∷ []) h = absurd (omega arith)
-first-eight (a ∷ b ∷ []) h = absurd (omega arith)
-first-eight (a ∷ b ∷ c ∷ []) h = absurd (omega arith)
-first-eight (a ∷ b ∷ c ∷ d ∷ []) h = absurd (omega arith)
-first-eight (a ∷ b ∷ c ∷ d ∷ e ∷ []) h = absurd (omega arith)
-first-eight (a ∷ b ∷ c ∷ d ∷ e ∷ f ∷ []) h = absurd (omega arith)
-first-eight (a ∷ b ∷ c ∷ d ∷ e ∷ f ∷ g ∷ []) h = absurd (omega arith)
-first-eight (a ∷ b ∷ c ∷ d ∷ e ∷ f ∷ g ∷ x ∷ rest) h = refl
-
-pub eight-words :
-    (ws : List ℕ) (i : ℕ) → i + 8 ≤ length ws
-    → get_or ws i 0 ∷ get_or ws (i + 1) 0 ∷ get_or ws (i + 2) 0 ∷ get_or ws (i + 3) 0 ∷ get_or ws (i + 4) 0 ∷ get_or ws (i + 5) 0 ∷ get_or ws (i + 6) 0 ∷ get_or ws (i + 7) 0 ∷ [] ≡ take 8 (drop i ws)
-eight-words ws i h =
-    let here : get_or ws i 0 ≡ get_or (drop i ws) 0 0 = ap (λ (m : ℕ). get_or ws m 0) (sym (add-zero i)) ∙ sym (get_or-drop i ws 0 0) in
-    rw (here, ← get_or-drop i ws 1 0, ← get_or-drop i ws 2 0, ← get_or-drop i ws 3 0, ← get_or-drop i ws 4 0, ← get_or-drop i ws 5 0, ← get_or-drop i ws 6 0, ← get_or-drop i ws 7 0)
-    (first-eight (drop i ws) (simp length-drop (omega arith)))
+-- of a list cut into eights, the one at place k
+pub eight_at : (ws : List ℕ) (n k : ℕ) → k < n → get_or (first_chunks 8 n ws) k [] ≡ take 8 (drop (8 * k) ws)
+eight_at ws zero k h = absurd (omega arith)
+eight_at ws (suc n) zero h = refl
+eight_at ws (suc n) (suc k) h =
+    let e : 8 + 8 * k ≡ 8 * suc k = omega arith in
+    eight_at (drop 8 ws) n k (omega arith) ∙ ap (take 8) (drop-drop (8 * k) 8 ws ∙ rw e)
 
 module _ {d : List ℕ} {i : ℕ} {all : List ℕ} {d' : List ℕ} {j : ℕ} (ws : List ℕ) (k : ℕ) where
   pub next-eight : {d'' : List ℕ} {j' : ℕ} → Wrote d i all d' j (drop (8 * k) ws) → Wrote d' j (take 8 (drop (8 * k) ws)) d'' j' [] → Wrote d i all d'' j' (drop (8 * (k + 1)) ws)
@@ -106,7 +96,3 @@ module _ {d : List ℕ} {i : ℕ} {all : List ℕ} {d' : List ℕ} {j : ℕ} (ws
 
   pub room-eight : 8 * (k + 1) ≤ length ws → Wrote d i all d' j (drop (8 * k) ws) → j + 16 ≤ length d'
   room-eight h p = omega (arith, p.room, p.place, p.same, length-drop (8 * k) ws)
-
--- a part of a list up to its end, as code writes it
-pub left_behind : (ws : List ℕ) (m : ℕ) → take (length ws - m) (drop m ws) ≡ drop m ws
-left_behind ws m = take_all (length ws - m) (drop m ws) (omega (arith, length-drop m ws))

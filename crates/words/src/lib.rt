@@ -1,7 +1,7 @@
 // Words: big-endian 16-bit numbers in lent bytes.
 #![tactic(auto)]
 
-ghost use Rattle.std.specs.Prelude.{◌≡◌, ◌∷◌, [], ◌++◌, ◌+◌, ◌*◌, ◌≤◌, length, take, drop};
+ghost use Rattle.std.specs.Prelude.{◌≡◌, ◌∷◌, [], ◌++◌, ◌+◌, ◌*◌, ◌≤◌, length, drop};
 ghost use Rattle.words.specs.Words.{word_at, words_at, Wrote};
 
 // Writes `w` at byte `at` of `area`, the high byte first, and says which byte comes then.
@@ -9,8 +9,9 @@ pub fn put_u16(w: u16, area: &mut [u8], at: usize) -> usize
     requires { at + 2 ≤ length area.old }
     ensures { Wrote area.old at (w ∷ []) area.new result [] }
 {
-    area[at] = (w / 256) as u8;
-    area[at + 1] = (w % 256) as u8;
+    let [high, low] = w.to_be_bytes();
+    area[at] = high;
+    area[at + 1] = low;
     at + 2
 }
 
@@ -19,30 +20,18 @@ fn put_each(words: &[u16], area: &mut [u8], at: usize) -> usize
     requires { at + 2 * length words.now ≤ length area.old }
     ensures { Wrote area.old at words.now area.new result [] }
 {
-    let mut i = 0;
     let mut p = at;
-    while i < words.len() {
-        p = put_u16(words[i], area, p);
-        i += 1;
+    for w in words {
+        p = put_u16(*w, area, p);
     }
     p
 }
 
-// The same for the eight words from place `i` on: all are read before one is written, so that the compiler writes them at once.
-fn put_eight(words: &[u16], i: usize, area: &mut [u8], at: usize) -> usize
-    requires { (i + 8 ≤ length words.now) × (at + 16 ≤ length area.old) }
-    ensures { Wrote area.old at (take 8 (drop i words.now)) area.new result [] }
+// The same for eight words that are a copy: no byte that is written is one of theirs, so that the compiler writes them at once.
+fn put_eight(eight: [u16; 8], area: &mut [u8], at: usize) -> usize
+    requires { at + 16 ≤ length area.old }
+    ensures { Wrote area.old at eight area.new result [] }
 {
-    let eight = [
-        words[i],
-        words[i + 1],
-        words[i + 2],
-        words[i + 3],
-        words[i + 4],
-        words[i + 5],
-        words[i + 6],
-        words[i + 7],
-    ];
     put_each(&eight, area, at)
 }
 
@@ -51,15 +40,12 @@ pub fn put_words(words: &[u16], area: &mut [u8], at: usize) -> usize
     requires { at + 2 * length words.now ≤ length area.old }
     ensures { Wrote area.old at words.now area.new result [] }
 {
-    let eights = words.len() / 8;
-    let mut k = 0;
+    let (eights, rest) = words.as_chunks::<8>();
     let mut p = at;
-    while k < eights {
-        p = put_eight(words, 8 * k, area, p);
-        k += 1;
+    for eight in eights {
+        p = put_eight(*eight, area, p);
     }
-    let whole = 8 * eights;
-    put_each(&words[whole..], area, p)
+    put_each(rest, area, p)
 }
 
 // The word at byte `at`.
@@ -67,17 +53,15 @@ pub fn u16_at(bytes: &[u8], at: usize) -> u16
     requires { at + 2 ≤ length bytes.now }
     ensures { result ≡ word_at bytes.now at }
 {
-    (bytes[at] as u16) * 256 + (bytes[at + 1] as u16)
+    u16::from_be_bytes([bytes[at], bytes[at + 1]])
 }
 
-// Reads `n` words from byte `at` on into the first places of `column`, from the last to the first: so the compiler reads many at once.
+// Reads `n` words from byte `at` on into the first places of `column`: by their places, so that the compiler reads many at once.
 pub fn get_words(bytes: &[u8], at: usize, n: usize, column: &mut [u16])
     requires { (at + 2 * n ≤ length bytes.now) × (n ≤ length column.old) }
     ensures { column.new ≡ words_at bytes.now at n ++ drop n column.old }
 {
-    let mut i = n;
-    while 0 < i {
-        i -= 1;
+    for i in 0..n {
         column[i] = u16_at(bytes, at + 2 * i);
     }
 }

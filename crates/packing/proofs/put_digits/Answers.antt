@@ -7,10 +7,17 @@ use Rattle.packing.proofs.UnpackLaws.{putting_next, putting_ends}
 use Rattle.packing.proofs.put_digits.Goals as goal
 
 pub loop-k-init : goal.loop-k-init
-loop-k-init c = ?
+loop-k-init c =
+    let a = c.args in
+    let all : a.at + a.n - a.at ≡ a.n = omega arith in
+    rw all (record { long = refl; room = c.requires; over = refl; parts = refl })
 
 pub loop-k-preserved : goal.loop-k-preserved
-loop-k-preserved c = ?
+loop-k-preserved c =
+    let e = c.args.at + c.args.n in
+    let k = c.loop-k.k in
+    let less : e - (k + 1) ≡ e - k - 1 = omega arith in
+    rw less (putting_next c.loop-k.invariant (omega (arith, c.loop-k-test.true)))
 
 pub returns : goal.returns
-returns c = ?
+returns c = putting_ends c.loop-k.invariant (omega (arith, c.loop-k-test.false))

@@ -1,4 +1,4 @@
--- A font's map: codes that rise, by their places (`rising_lt`); the glyph at a place, and none (`glyph-at`, `glyph-none`); the search in a window that is a power of two, whose loop knows that codes before the window are below the code sought, and codes behind it above it (`Searching`, `searching_begins`, `searching_next`, `searching_inside`, `searching_middle`, `searching_finds`, `searching_ends`; `searching_nowhere` without codes); what glyphs that a rule may use say (`glyph-told`, `glyph_missing`); that a search has one answer (`found-once`).
+-- A font's map: codes that rise, by their places (`rising_lt`); the glyph at a place, and none (`glyph-at`, `glyph-none`); the search in a window that is a power of two, whose loop knows that codes before the window are below the code sought, and codes behind it above it (`Searching`, `searching_begins`, `searching_next`, `searching_inside`, `searching_middle`, `searching_finds`, `searching_ends`; `searching_nowhere` without codes); that a search has one answer (`found-once`).
 -- Assumes nothing.
 use mathlib.Core.Path.{◌≡◌, refl, sym, ap, ◌∙◌}
 use mathlib.Core.Bool.{Bool, true, false, cond}
@@ -13,7 +13,7 @@ use lib.Pow.{pow_pos}
 use lib.ListN.{length, get_or}
 use Rattle.refusals.specs.Columns.{rising}
 use Rattle.refusals.proofs.ColumnLaws.{rising-at}
-use Rattle.fonts.specs.Font.{font_of, Sound, Span, absent, glyph_among, number_found, Usable}
+use Rattle.fonts.specs.Font.{font_of, Sound, Span, absent, glyph_among, number_found}
 use Rattle.letters.specs.declared.Glyph.{Glyph}
 
 -- ---- codes that rise strictly
@@ -168,14 +168,6 @@ module _ {codes : List ℕ} {x base half : ℕ} (p : Searching codes x base half
 
 pub searching_nowhere : (codes gs : List ℕ) (x : ℕ) → length codes ≡ 0 → absent ≡ glyph_among codes gs x
 searching_nowhere codes gs x e = sym (glyph-none codes gs x (λ k q r. omega arith))
-
--- ---- what the glyph that a rule may use says of the font's own
-module _ {r : Option Glyph} {n : ℕ} (u : Usable r n) where
-  pub glyph-told : {g : Glyph} → r ≡ Some g → (g.0 ≡ n) × (n < 65536)
-  glyph-told e = rw e at u
-
-  pub glyph_missing : r ≡ None → 65536 ≤ n
-  glyph_missing e = rw e at u
 
 -- ---- one answer, since a glyph is of 32 bits
 abbrev pub Small : Option Glyph → Type 0

@@ -12,18 +12,18 @@ use lib.ListN.{length}
 use Rattle.laws.proofs.TestLaws.{and_false}
 use Rattle.words.specs.Words.{word_at, words_at}
 use Rattle.scanning.specs.Scans.{any, exactly, several, rise}
-use Rattle.accepting.specs.declared.Scanned.{Scanned}
-use Rattle.accepting.specs.declared.Scanned.TheVariants.{At, Wrong, Short}
-use Rattle.accepting.specs.Scanned.{after, Took, these}
+use Rattle.std.specs.Prelude.{Ok, Err}
+use Rattle.accepting.specs.declared.Fault.TheVariants.{Wrong, Short}
+use Rattle.accepting.specs.Scanned.{Scanned, after, Took, these}
 use Rattle.accepting.proofs.TookLaws.{took_none, took_map, one-short, one-wrong, one_right}
 
 -- ---- certain words
 module _ (x : ℕ) (xs : List ℕ) {end : ℕ} (b : List ℕ) (p : ℕ) where
-  pub these-short : length b < p + 2 → Took (these (x ∷ xs)) tt end b p Short
+  pub these-short : length b < p + 2 → Took (these (x ∷ xs)) tt end b p (Err Short)
   unfolding exactly
   these-short h = one-short (eqb x) (λ w k. exactly xs (k tt)) b p h
 
-  pub these-wrong : p + 2 ≤ length b → (word_at b p ≡ x → ⊥) → Took (these (x ∷ xs)) tt end b p (Wrong p)
+  pub these-wrong : p + 2 ≤ length b → (word_at b p ≡ x → ⊥) → Took (these (x ∷ xs)) tt end b p (Err (Wrong p))
   unfolding exactly
   these-wrong h d = one-wrong (eqb x) (λ w k. exactly xs (k tt)) b p h (ne_eqb x (word_at b p) (λ e. d (sym e)))
 
@@ -31,32 +31,32 @@ module _ (x : ℕ) (xs : List ℕ) {end : ℕ} (b : List ℕ) (p : ℕ) where
   unfolding exactly
   these-more h e r t = one_right (eqb x) (λ w k. exactly xs (k tt)) b p h (eq-eqb x (word_at b p) (sym e)) r t
 
-pub these-none : {end : ℕ} (b : List ℕ) (p : ℕ) → p ≡ end → p ≤ length b → Took (these []) tt end b p (At p)
+pub these-none : {end : ℕ} (b : List ℕ) (p : ℕ) → p ≡ end → p ≤ length b → Took (these []) tt end b p (Ok p)
 unfolding exactly
 these-none b p e h = took_none b p e h
 
 -- ---- several words of any value
-pub several_taken : (n : ℕ) (b : List ℕ) (p : ℕ) → p + 2 * n ≤ length b → Took (several n) (words_at b p n) (p + 2 * n) b p (At (p + 2 * n))
+pub several_taken : (n : ℕ) (b : List ℕ) (p : ℕ) → p + 2 * n ≤ length b → Took (several n) (words_at b p n) (p + 2 * n) b p (Ok (p + 2 * n))
 unfolding several words_at
 several_taken zero b p h = let e : p + 0 ≡ p = omega arith in rw e (took_none b p refl (omega arith))
 several_taken (suc n) b p h =
     let e : p + 2 * suc n ≡ p + 2 + 2 * n = omega arith in
-    one_right any (λ w k. several n (λ ws. k (w ∷ ws))) b p (omega arith) refl (At (p + 2 * suc n))
+    one_right any (λ w k. several n (λ ws. k (w ∷ ws))) b p (omega arith) refl (Ok (p + 2 * suc n))
     (rw e (took_map (several n) (λ ws. word_at b p ∷ ws) (several_taken n b (p + 2) (omega arith))))
 
-pub several-short : (n : ℕ) (value : List ℕ) {end : ℕ} (b : List ℕ) (p : ℕ) → p ≤ length b → length b < p + 2 * n → Took (several n) value end b p Short
+pub several-short : (n : ℕ) (value : List ℕ) {end : ℕ} (b : List ℕ) (p : ℕ) → p ≤ length b → length b < p + 2 * n → Took (several n) value end b p (Err Short)
 unfolding after several
 several-short zero value b p l h = absurd (omega arith)
 several-short (suc n) value {end} b p l h = go (ltb (length b) (p + 2)) refl (λ g. several-short n [] b (p + 2) g (omega arith))
   where
-    stops : Took (several n) [] end b (p + 2) Short → (w : ℕ) → Took (λ k. several n (λ ws. k (w ∷ ws))) value end b (p + 2) Short
+    stops : Took (several n) [] end b (p + 2) (Err Short) → (w : ℕ) → Took (λ k. several n (λ ws. k (w ∷ ws))) value end b (p + 2) (Err Short)
     stops t w = record { goes = λ k. t.goes (λ ws. k (w ∷ ws)); place = tt }
 
-    go : (t : Bool) → ltb (length b) (p + 2) ≡ t → (p + 2 ≤ length b → Took (several n) [] end b (p + 2) Short) → Took (several (suc n)) value end b p Short
+    go : (t : Bool) → ltb (length b) (p + 2) ≡ t → (p + 2 ≤ length b → Took (several n) [] end b (p + 2) (Err Short)) → Took (several (suc n)) value end b p (Err Short)
     go true e rec = one-short any (λ w k. several n (λ ws. k (w ∷ ws))) b p (ltb-true (length b) (p + 2) e)
     go false e rec =
         let g : p + 2 ≤ length b = ltb-false (length b) (p + 2) e in
-        one_right any (λ w k. several n (λ ws. k (w ∷ ws))) b p g refl Short (stops (rec g) (word_at b p))
+        one_right any (λ w k. several n (λ ws. k (w ∷ ws))) b p g refl (Err Short) (stops (rec g) (word_at b p))
 
 -- ---- glyphs that rise
 -- a product by 0 or 1
@@ -77,14 +77,14 @@ rise-test low high w behind sum e = go (ltb w low) refl e
     go false f e = rw (le-ltb (w + behind) 65536 (omega (arith, ltb-true high w e, sum))) (and_false (leb low w))
 
 module _ (apart : ℕ) {end : ℕ} (b : List ℕ) (p : ℕ) where
-  pub rise-short : (left low : ℕ) {value : List ℕ} → 0 < left → length b < p + 2 → Took (rise apart left low) value end b p Short
+  pub rise-short : (left low : ℕ) {value : List ℕ} → 0 < left → length b < p + 2 → Took (rise apart left low) value end b p (Err Short)
   unfolding rise
   rise-short zero low h s = absurd (omega arith)
   rise-short (suc n) low h s = one-short _ (λ w k. rise apart n (w + apart) (λ ws. k (w ∷ ws))) b p s
 
   pub rise-wrong :
       (left low : ℕ) {value : List ℕ} → p + 2 ≤ length b → (leb low (word_at b p) && ltb (word_at b p + apart * left) 65536) ≡ false
-      → Took (rise apart (left + 1) low) value end b p (Wrong p)
+      → Took (rise apart (left + 1) low) value end b p (Err (Wrong p))
   unfolding rise
   rise-wrong left low h t =
       let e : left + 1 ≡ suc left = omega arith in
@@ -98,6 +98,6 @@ module _ (apart : ℕ) {end : ℕ} (b : List ℕ) (p : ℕ) where
       let e : left + 1 ≡ suc left = omega arith in
       rw e (one_right _ (λ w k. rise apart left (w + apart) (λ ws. k (w ∷ ws))) b p h (rw (le-leb low (word_at b p) lo, lt-ltb (word_at b p + apart * left) 65536 hi)) r (took_map (rise apart left (word_at b p + apart)) (λ ws. word_at b p ∷ ws) t))
 
-pub rise-none : (apart low : ℕ) {end : ℕ} (b : List ℕ) (p : ℕ) → p ≡ end → p ≤ length b → Took (rise apart 0 low) (words_at b p 0) end b p (At p)
+pub rise-none : (apart low : ℕ) {end : ℕ} (b : List ℕ) (p : ℕ) → p ≡ end → p ≤ length b → Took (rise apart 0 low) (words_at b p 0) end b p (Ok p)
 unfolding rise words_at
 rise-none apart low b p e h = took_none b p e h

@@ -1,6 +1,6 @@
--- Parts made of parts, one taken behind the other: the head of a lookup (`headed-stops`, `headed-flags`, `headed_taken`), a coverage (`covered-stops`, `covered_taken`), the count and the offset that it says (`counted-short`, `counted_odd`, `counted-many`, `counted_taken`, `counts-known`, `counts-at`).
+-- Parts made of parts, one taken behind the other: the head of a lookup (`headed-stops`, `headed-flags`, `headed_taken`), a coverage (`covered-stops`, `covered_taken`), the count and the offset that it says (`counted-short`, `counted_odd`, `counted-many`, `counted_taken`, `counts-known`).
 -- Assumes nothing.
-use mathlib.Core.Path.{◌≡◌, refl, subst}
+use mathlib.Core.Path.{◌≡◌, refl}
 use mathlib.Core.Bool.{Bool, true, false, not, ◌&&◌, ◌||◌, false≢true}
 use mathlib.Core.List.{List, [], ◌∷◌}
 use Prim.Native.Nat.{ℕ, ◌+◌, ◌-◌, ◌*◌, ◌/◌, ◌%◌, ◌≤◌, ◌<◌}
@@ -12,14 +12,11 @@ use Rattle.laws.proofs.TestLaws.{neither, and_false}
 use Rattle.words.specs.Words.{word_at, words_at}
 use Rattle.scanning.specs.Scans.{Rest, next, any, exactly, several, rise}
 use Rattle.scanning.specs.Grammar.{headed, counted, covered}
-use Rattle.accepting.specs.declared.Scanned.{Scanned}
-use Rattle.accepting.specs.declared.Scanned.TheVariants.{At, Wrong, Short}
-use Rattle.accepting.specs.Scanned.{Took, these, Counts}
-use Rattle.accepting.proofs.TookLaws.{took_else, took_then, took_place, took_these, took_end, one-short, one-wrong, one_right}
-
--- a scan that did not come to an end
-abbrev pub Stopped : Scanned → Type 0
-Stopped r = (p : ℕ) → r ≡ At p → ⊥
+use Rattle.std.specs.Prelude.{Ok, Err}
+use Rattle.accepting.specs.declared.Fault.{Fault}
+use Rattle.accepting.specs.declared.Fault.TheVariants.{Wrong, Short}
+use Rattle.accepting.specs.Scanned.{Scanned, Took, these, Counts}
+use Rattle.accepting.proofs.TookLaws.{took_else, took_then, took_these, took_end, one-short, one-wrong, one_right}
 
 -- ---- the head of a lookup
 module _ (kind : ℕ) (b : List ℕ) where
@@ -30,38 +27,38 @@ module _ (kind : ℕ) (b : List ℕ) where
   abbrev behind_flags : List ℕ → (ℕ → Rest) → Rest
   behind_flags ws k = exactly (1 ∷ 8 ∷ []) (k (get_or ws 0 0))
 
-  pub headed-stops : (r : Scanned) → Took (these (kind ∷ [])) tt 2 b 0 r → Stopped r → Took (headed kind) (word_at b 2) 8 b 0 r
-  headed-stops r t h = took_else (these (kind ∷ [])) behind_kind _ 8 r t h
+  pub headed-stops : (f : Fault) → Took (these (kind ∷ [])) tt 2 b 0 (Err f) → Took (headed kind) (word_at b 2) 8 b 0 (Err f)
+  headed-stops f t = took_else (these (kind ∷ [])) behind_kind _ 8 f t
 
-  module _ {s : Scanned} (p : ℕ) (same : s ≡ At p) (t : Took (these (kind ∷ [])) tt 2 b 0 s) where
-    pub headed-flags : (r : Scanned) → Took (several 1) (words_at b p 1) (p + 2 * 1) b p r → Stopped r → Took (headed kind) (word_at b 2) 8 b 0 r
+  module _ (p : ℕ) (t : Took (these (kind ∷ [])) tt 2 b 0 (Ok p)) where
+    pub headed-flags : (f : Fault) → Took (several 1) (words_at b p 1) (p + 2 * 1) b p (Err f) → Took (headed kind) (word_at b 2) 8 b 0 (Err f)
     unfolding several
-    headed-flags r u h = took_then (these (kind ∷ [])) behind_kind s p same t r (took_else (several 1) behind_flags _ 8 r u h)
+    headed-flags f u = took_then (these (kind ∷ [])) behind_kind p t (Err f) (took_else (several 1) behind_flags _ 8 f u)
 
     pub headed_taken :
-        {f : Scanned} (q : ℕ) → f ≡ At q → Took (several 1) (words_at b p 1) (p + 2 * 1) b p f → (r : Scanned) → Took (these (1 ∷ 8 ∷ [])) tt (q + 2 * 2) b q r
+        (q : ℕ) → Took (several 1) (words_at b p 1) (p + 2 * 1) b p (Ok q) → (r : Scanned) → Took (these (1 ∷ 8 ∷ [])) tt (q + 2 * 2) b q r
         → Took (headed kind) (word_at b 2) 8 b 0 r
     unfolding several words_at
-    headed_taken {f} q alike u r v =
-        let two : p ≡ 2 = (took_place s p same t).0 in
-        let four : q + 2 * 2 ≡ 8 = omega (arith, (took_place f q alike u).0) in
-        took_then (these (kind ∷ [])) behind_kind s p same t r
-        (rw two (took_then (several 1) behind_flags f q alike (rw two at u) r (took_end four (took_these (1 ∷ 8 ∷ []) (word_at b 2) v))))
+    headed_taken q u r v =
+        let two : p ≡ 2 = t.place.0 in
+        let four : q + 2 * 2 ≡ 8 = omega (arith, u.place.0) in
+        took_then (these (kind ∷ [])) behind_kind p t r
+        (rw two (took_then (several 1) behind_flags q (rw two at u) r (took_end four (took_these (1 ∷ 8 ∷ []) (word_at b 2) v))))
 
 -- ---- a coverage
 module _ (apart n : ℕ) (b : List ℕ) (at : ℕ) where
   abbrev glyphs_behind : Unit {0} → (List ℕ → Rest) → Rest
   glyphs_behind u k = rise apart n 0 k
 
-  pub covered-stops : (r : Scanned) → Took (these (1 ∷ n ∷ [])) tt (at + 2 * 2) b at r → Stopped r → Took (covered apart n) (words_at b (at + 4) n) (at + 4 + 2 * n) b at r
-  covered-stops r t h = took_else (these (1 ∷ n ∷ [])) glyphs_behind _ _ r t h
+  pub covered-stops : (f : Fault) → Took (these (1 ∷ n ∷ [])) tt (at + 2 * 2) b at (Err f) → Took (covered apart n) (words_at b (at + 4) n) (at + 4 + 2 * n) b at (Err f)
+  covered-stops f t = took_else (these (1 ∷ n ∷ [])) glyphs_behind _ _ f t
 
   pub covered_taken :
-      {s : Scanned} (p : ℕ) → s ≡ At p → Took (these (1 ∷ n ∷ [])) tt (at + 2 * 2) b at s → (r : Scanned) → Took (rise apart n 0) (words_at b p n) (p + 2 * n) b p r
+      (p : ℕ) → Took (these (1 ∷ n ∷ [])) tt (at + 2 * 2) b at (Ok p) → (r : Scanned) → Took (rise apart n 0) (words_at b p n) (p + 2 * n) b p r
       → Took (covered apart n) (words_at b (at + 4) n) (at + 4 + 2 * n) b at r
-  covered_taken {s} p same t r u =
-      let four : p ≡ at + 4 = (took_place s p same t).0 in
-      took_then (these (1 ∷ n ∷ [])) glyphs_behind s p same t r (rw (← four) u)
+  covered_taken p t r u =
+      let four : p ≡ at + 4 = t.place.0 in
+      took_then (these (1 ∷ n ∷ [])) glyphs_behind p t r (rw (← four) u)
 
 -- ---- where the coverage begins, and the count
 module _ (most : ℕ) (b : List ℕ) (at : ℕ) where
@@ -72,15 +69,15 @@ module _ (most : ℕ) (b : List ℕ) (at : ℕ) where
   abbrev counts : ℕ → Bool
   counts o = eqb (6 + 2 * count_of o) o && leb (count_of o) most
 
-  pub counted-short : length b < at + 2 → Took (counted most) (count_of (word_at b at)) (at + 4) b at Short
+  pub counted-short : length b < at + 2 → Took (counted most) (count_of (word_at b at)) (at + 4) b at (Err Short)
   counted-short h = one-short counts (λ o k. exactly (count_of o ∷ []) (k (count_of o))) b at h
 
   module _ (h : at + 2 ≤ length b) where
-    wrong-count : counts (word_at b at) ≡ false → Took (counted most) (count_of (word_at b at)) (at + 4) b at (Wrong at)
+    wrong-count : counts (word_at b at) ≡ false → Took (counted most) (count_of (word_at b at)) (at + 4) b at (Err (Wrong at))
     wrong-count e = one-wrong counts (λ o k. exactly (count_of o ∷ []) (k (count_of o))) b at h e
 
     -- it is not 6 and twice a count
-    pub counted_odd : (o : ℕ) → o ≡ word_at b at → (ltb o 6 || not (eqb (o % 2) 0)) ≡ true → Took (counted most) (count_of (word_at b at)) (at + 4) b at (Wrong at)
+    pub counted_odd : (o : ℕ) → o ≡ word_at b at → (ltb o 6 || not (eqb (o % 2) 0)) ≡ true → Took (counted most) (count_of (word_at b at)) (at + 4) b at (Err (Wrong at))
     counted_odd o same e = wrong-count (rw (← same, ne_eqb (6 + 2 * count_of o) o (uneven o e)))
       where
         uneven : (o : ℕ) → (ltb o 6 || not (eqb (o % 2) 0)) ≡ true → 6 + 2 * count_of o ≡ o → ⊥
@@ -92,7 +89,7 @@ module _ (most : ℕ) (b : List ℕ) (at : ℕ) where
             go false false f g e = eqb-false (o % 2) 0 g (omega (arith, q))
 
     -- it is more than there may be
-    pub counted-many : (o : ℕ) → o ≡ word_at b at → most < count_of o → Took (counted most) (count_of (word_at b at)) (at + 4) b at (Wrong at)
+    pub counted-many : (o : ℕ) → o ≡ word_at b at → most < count_of o → Took (counted most) (count_of (word_at b at)) (at + 4) b at (Err (Wrong at))
     counted-many o same e = wrong-count (rw (← same, lt-leb (count_of o) most e) (and_false (eqb (6 + 2 * count_of o) o)))
 
     pub counted_taken :
@@ -109,9 +106,5 @@ module _ (most : ℕ) (b : List ℕ) (at : ℕ) where
 
 -- what is known of a count that was taken
 pub counts-known : (r : Scanned) (most o : ℕ) → (ltb o 6 || not (eqb (o % 2) 0)) ≡ false → (o - 6) / 2 ≤ most → Counts r most o
-counts-known (At p) most o e f = (ltb-false o 6 (neither (ltb o 6) (not (eqb (o % 2) 0)) e).0, f)
-counts-known (Wrong p) most o e f = tt
-counts-known Short most o e f = tt
-
-pub counts-at : (r : Scanned) (p most o : ℕ) → r ≡ At p → Counts r most o → (6 ≤ o) × ((o - 6) / 2 ≤ most)
-counts-at r p most o e t = subst (λ (x : Scanned). Counts x most o) e t
+counts-known (Ok p) most o e f = (ltb-false o 6 (neither (ltb o 6) (not (eqb (o % 2) 0)) e).0, f)
+counts-known (Err x) most o e f = tt

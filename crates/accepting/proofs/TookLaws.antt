@@ -1,4 +1,4 @@
--- Parts of a lookup taken from bytes. One word: the bytes end, it cannot stand, or the scan goes on behind it (`next-short`, `next-wrong`, `next-right`). Parts: where one stops, so does what begins with it (`took_else`); where one is taken, what follows it is taken behind it (`took_then`), and it ended at a place in the bytes (`took_place`); a value may be made of what a part says (`took_map`, `took_these`), an end said in other words (`took_end`); a part that begins with one word (`one-short`, `one-wrong`, `one_right`); a loop over parts (`Leads`).
+-- Parts of a lookup taken from bytes. One word: the bytes end, it cannot stand, or the scan goes on behind it (`next-short`, `next-wrong`, `next-right`). Parts: where one stops, so does what begins with it (`took_else`); where one is taken, what follows it is taken behind it (`took_then`); a fault handed on (`handed`); a value may be made of what a part says (`took_map`, `took_these`), an end said in other words (`took_end`); a part that begins with one word (`one-short`, `one-wrong`, `one_right`); a loop over parts (`Leads`).
 -- Assumes nothing.
 use mathlib.Core.Path.{◌≡◌, refl, ap, subst, ◌∙◌}
 use mathlib.Core.Bool.{Bool, true, false}
@@ -9,9 +9,12 @@ use lib.ListN.{length}
 use Rattle.words.specs.Words.{word_at, words_at}
 use Rattle.words.proofs.WordLaws.{words-next, words-none, length-words}
 use Rattle.scanning.specs.Scans.{Rest, wrong, short, next, exactly}
-use Rattle.accepting.specs.declared.Scanned.{Scanned}
-use Rattle.accepting.specs.declared.Scanned.TheVariants.{At, Wrong, Short}
-use Rattle.accepting.specs.Scanned.{from, after, Stands, Took, these}
+use Rattle.std.specs.Prelude.{Ok, Err}
+use Rattle.std.specs.Result.{IsErr, IsErrAnd}
+use Rattle.std.proofs.lemmas.Result.{err_from_is_err_and}
+use Rattle.accepting.specs.declared.Fault.{Fault}
+use Rattle.accepting.specs.declared.Fault.TheVariants.{Wrong, Short}
+use Rattle.accepting.specs.Scanned.{Scanned, from, after, Took, these}
 
 -- ---- one word
 module _ (b : List ℕ) (p : ℕ) where
@@ -50,42 +53,28 @@ module _ (b : List ℕ) (p : ℕ) (test : ℕ → Bool) (k : ℕ → Rest) where
   next-right h t = rw (from_next b p h, t)
 
 -- ---- a scan that stopped
-pub stopped : (r : Scanned) (b : List ℕ) (k m : Rest) → ((q : ℕ) → r ≡ At q → ⊥) → after r b k ≡ after r b m
+stopped : (f : Fault) (b : List ℕ) (k m : Rest) → after (Err f) b k ≡ after (Err f) b m
 unfolding after
-stopped (At p) b k m h = absurd (h p refl)
-stopped (Wrong p) b k m h = refl
-stopped Short b k m h = refl
-
-stopped-stands : (r : Scanned) (end room : ℕ) → ((q : ℕ) → r ≡ At q → ⊥) → Stands r end room
-stopped-stands (At p) end room h = absurd (h p refl)
-stopped-stands (Wrong p) end room h = tt
-stopped-stands Short end room h = tt
+stopped (Wrong p) b k m = refl
+stopped Short b k m = refl
 
 -- ---- parts
 module _ {A B : Type 0} (part : (A → Rest) → Rest) (follows : A → (B → Rest) → Rest) {first : A} {e : ℕ} {b : List ℕ} {p : ℕ} where
   -- where the first part stops, so does the whole
-  pub took_else : (value : B) (end : ℕ) (r : Scanned) → Took part first e b p r → ((q : ℕ) → r ≡ At q → ⊥) → Took (λ k. part (λ x. follows x k)) value end b p r
-  took_else value end r t h =
-      record {
-        goes = λ k. t.goes (λ x. follows x k) ∙ stopped r b (follows first k) (k value) h;
-        place = stopped-stands r end (length b) h;
-      }
+  pub took_else : (value : B) (end : ℕ) (f : Fault) → Took part first e b p (Err f) → Took (λ k. part (λ x. follows x k)) value end b p (Err f)
+  took_else value end f t = record { goes = λ k. t.goes (λ x. follows x k) ∙ stopped f b (follows first k) (k value); place = tt }
 
   -- what follows is taken where the first part ends
-  pub took_then : {value : B} {end : ℕ} (s : Scanned) (q : ℕ) → s ≡ At q → Took part first e b p s → (r : Scanned) → Took (follows first) value end b q r → Took (λ k. part (λ x. follows x k)) value end b p r
+  pub took_then : {value : B} {end : ℕ} (q : ℕ) → Took part first e b p (Ok q) → (r : Scanned) → Took (follows first) value end b q r → Took (λ k. part (λ x. follows x k)) value end b p r
   unfolding after
-  took_then s q same t r u =
-      record {
-        goes = λ k. t.goes (λ x. follows x k) ∙ ap (λ (x : Scanned). after x b (follows first k)) same ∙ u.goes k;
-        place = u.place;
-      }
+  took_then q t r u = record { goes = λ k. t.goes (λ x. follows x k) ∙ u.goes k; place = u.place }
 
--- where a part ends
-pub took_place : {A : Type 0} {part : (A → Rest) → Rest} {value : A} {end : ℕ} {b : List ℕ} {p : ℕ} (s : Scanned) (q : ℕ) → s ≡ At q → Took part value end b p s → (q ≡ end) × (q ≤ length b)
-took_place {end} {b} s q same t = subst (λ (x : Scanned). Stands x end (length b)) same t.place
+-- what `?` hands on is the fault that it was given
+pub handed : {r : Scanned} {f : Fault} → IsErr r × IsErrAnd r (λ (y : Fault). y ≡ f) → r ≡ Err f
+handed {r} h = let e = err_from_is_err_and r h.1 in e.1 ∙ ap Err e.2
 
 -- nothing is taken
-pub took_none : {A : Type 0} {value : A} {end : ℕ} (b : List ℕ) (p : ℕ) → p ≡ end → p ≤ length b → Took (λ (k : A → Rest). k value) value end b p (At p)
+pub took_none : {A : Type 0} {value : A} {end : ℕ} (b : List ℕ) (p : ℕ) → p ≡ end → p ≤ length b → Took (λ (k : A → Rest). k value) value end b p (Ok p)
 unfolding after
 took_none b p e h = record { goes = λ k. refl; place = (e, h) }
 
@@ -103,11 +92,11 @@ took_end {part} {value} {b} {p} {r} e t = subst (λ (x : ℕ). Took part value x
 
 -- ---- a part that begins with one word
 module _ {B : Type 0} (test : ℕ → Bool) (follows : ℕ → (B → Rest) → Rest) {value : B} {end : ℕ} (b : List ℕ) (p : ℕ) where
-  pub one-short : length b < p + 2 → Took (λ k. next test (λ w. follows w k)) value end b p Short
+  pub one-short : length b < p + 2 → Took (λ k. next test (λ w. follows w k)) value end b p (Err Short)
   unfolding after
   one-short h = record { goes = λ k. next-short b p test (λ w. follows w k) h; place = tt }
 
-  pub one-wrong : p + 2 ≤ length b → test (word_at b p) ≡ false → Took (λ k. next test (λ w. follows w k)) value end b p (Wrong p)
+  pub one-wrong : p + 2 ≤ length b → test (word_at b p) ≡ false → Took (λ k. next test (λ w. follows w k)) value end b p (Err (Wrong p))
   unfolding after
   one-wrong h t = record { goes = λ k. next-wrong b p test (λ w. follows w k) h t; place = tt }
 

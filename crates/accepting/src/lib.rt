@@ -7,32 +7,32 @@ ghost use Rattle.scanning.specs.Scans.{several, rise};
 ghost use Rattle.scanning.specs.Grammar.{headed, counted, covered};
 ghost use Rattle.accepting.specs.Scanned.{Took, these, Counts};
 
-// What comes of scanning a part: where it ends; where a word is that cannot stand; that the bytes end too soon.
-#[derive(Clone, Copy)]
-pub enum Scanned {
-    At(usize),
+// Why a scan stopped: where a word is that cannot stand; that the bytes end too soon.
+#[derive(Clone, Copy, Debug, PartialEq, Eq)]
+pub enum Fault {
     Wrong(usize),
     Short,
 }
+
+// What comes of scanning a part: where it ends.
+pub type Scanned = Result<usize, Fault>;
 
 // The very words `words`.
 pub fn exactly(words: &[u16], bytes: &[u8], at: usize) -> Scanned
     requires { at ≤ length bytes.now }
     ensures { Took (these words.now) tt (at + 2 * length words.now) bytes.now at result }
 {
-    let mut i = 0;
     let mut p = at;
-    while i < words.len() {
+    for w in words {
         if bytes.len() - p < 2 {
-            return Scanned::Short;
+            return Err(Fault::Short);
         }
-        if words::u16_at(bytes, p) != words[i] {
-            return Scanned::Wrong(p);
+        if words::u16_at(bytes, p) != *w {
+            return Err(Fault::Wrong(p));
         }
         p += 2;
-        i += 1;
     }
-    Scanned::At(p)
+    Ok(p)
 }
 
 // `n` words of any value.
@@ -41,9 +41,9 @@ pub fn several(n: usize, bytes: &[u8], at: usize) -> Scanned
     ensures { Took (several n) (words_at bytes.now at n) (at + 2 * n) bytes.now at result }
 {
     if (bytes.len() - at) / 2 < n {
-        return Scanned::Short;
+        return Err(Fault::Short);
     }
-    Scanned::At(at + 2 * n)
+    Ok(at + 2 * n)
 }
 
 // `n` glyphs, each at least `apart` above the one before it, with room for those behind it.
@@ -51,41 +51,30 @@ pub fn rise(apart: usize, n: usize, bytes: &[u8], at: usize) -> Scanned
     requires { (at ≤ length bytes.now) × (apart ≤ 1) × (n < 65536) }
     ensures { Took (rise apart n 0) (words_at bytes.now at n) (at + 2 * n) bytes.now at result }
 {
-    let mut left = n;
     let mut low = 0;
     let mut high = 65535 - apart * n;
-    let mut p = at;
-    while 0 < left {
+    for i in 0..n {
+        let p = at + 2 * i;
         if bytes.len() - p < 2 {
-            return Scanned::Short;
+            return Err(Fault::Short);
         }
         high += apart;
-        let glyph = words::u16_at(bytes, p) as usize;
+        let glyph = usize::from(words::u16_at(bytes, p));
         if (glyph < low) | (high < glyph) {
-            return Scanned::Wrong(p);
+            return Err(Fault::Wrong(p));
         }
         low = glyph + apart;
-        p += 2;
-        left -= 1;
     }
-    Scanned::At(p)
+    Ok(at + 2 * n)
 }
 
 // A lookup's type, flags, and one subtable, which begins at byte 8.
 pub fn headed(kind: u16, bytes: &[u8]) -> Scanned
     ensures { Took (headed kind) (word_at bytes.now 2) 8 bytes.now 0 result }
 {
-    let kinds = [kind];
-    let first = exactly(&kinds, bytes, 0);
-    let Scanned::At(p) = first else {
-        return first;
-    };
-    let flags = several(1, bytes, p);
-    let Scanned::At(q) = flags else {
-        return flags;
-    };
-    let rest = [1, 8];
-    exactly(&rest, bytes, q)
+    let p = exactly(&[kind], bytes, 0)?;
+    let q = several(1, bytes, p)?;
+    exactly(&[1, 8], bytes, q)
 }
 
 // Where the coverage begins, behind at most `most` numbers, and how many these are.
@@ -94,18 +83,17 @@ pub fn counted(most: usize, bytes: &[u8], at: usize) -> Scanned
     ensures { Took (counted most) ((word_at bytes.now at - 6) / 2) (at + 4) bytes.now at result × Counts result most (word_at bytes.now at) }
 {
     if bytes.len() - at < 2 {
-        return Scanned::Short;
+        return Err(Fault::Short);
     }
-    let o = words::u16_at(bytes, at) as usize;
+    let o = usize::from(words::u16_at(bytes, at));
     if (o < 6) | (o % 2 != 0) {
-        return Scanned::Wrong(at);
+        return Err(Fault::Wrong(at));
     }
     let n = (o - 6) / 2;
     if most < n {
-        return Scanned::Wrong(at);
+        return Err(Fault::Wrong(at));
     }
-    let count = [n as u16];
-    exactly(&count, bytes, at + 2)
+    exactly(&[n as u16], bytes, at + 2)
 }
 
 // A coverage of `n` glyphs.
@@ -113,10 +101,6 @@ pub fn covered(apart: usize, n: usize, bytes: &[u8], at: usize) -> Scanned
     requires { (at ≤ length bytes.now) × (apart ≤ 1) × (n < 65536) }
     ensures { Took (covered apart n) (words_at bytes.now (at + 4) n) (at + 4 + 2 * n) bytes.now at result }
 {
-    let head = [1, n as u16];
-    let first = exactly(&head, bytes, at);
-    let Scanned::At(p) = first else {
-        return first;
-    };
+    let p = exactly(&[1, n as u16], bytes, at)?;
     rise(apart, n, bytes, p)
 }

@@ -9,11 +9,11 @@ use native.Mathlib.Omega.{arith}
 use lib.ListN.{length}
 use Rattle.words.specs.Words.{word_at, words_at}
 use Rattle.scanning.specs.Grammar.{set_size, settled}
-use Rattle.accepting.specs.declared.Scanned.{Scanned}
-use Rattle.accepting.specs.declared.Scanned.TheVariants.{At, Wrong, Short}
+use Rattle.std.specs.Prelude.{Ok, Err}
+use Rattle.accepting.specs.declared.Fault.{Fault}
+use Rattle.accepting.specs.declared.Fault.TheVariants.{Wrong, Short}
 use Rattle.accepting.specs.Scanned.{Took}
-use Rattle.accepting.proofs.TookLaws.{took_place, Leads}
-use Rattle.accepting.proofs.SeriesLaws.{Stopped}
+use Rattle.accepting.proofs.TookLaws.{Leads}
 use Rattle.grouping.specs.Grouped.{starts_at, sets_at, end_at, may_have_lem, leads_at, SetTaken, SetsTaken}
 use Rattle.grouping.proofs.SetsLaws.{sets_too_short, sets_miscounted, sets-stops, sets_more, sets-none}
 
@@ -54,29 +54,29 @@ module _ (n s : ℕ) (b : List ℕ) where
       record { within = h; upto = omega arith; places = refl; small = omega arith; ends = rw place; leads = rw place (λ r t. t) }
 
   module _ (left o at p : ℕ) (g : Going n s b left o at p) where
-    pub going_ends : left ≡ 0 → SetsTaken n s b (At p)
+    pub going_ends : left ≡ 0 → SetsTaken n s b (Ok p)
     unfolding words_at end_at
-    going_ends z = g.leads (At p) (rw z (sets-none n o b (lead_place s 0) at p (sym (ap (λ (l : ℕ). end_at n (words_at b (lead_place s l) l) b p) z) ∙ g.ends) g.within))
+    going_ends z = g.leads (Ok p) (rw z (sets-none n o b (lead_place s 0) at p (sym (ap (λ (l : ℕ). end_at n (words_at b (lead_place s l) l) b p) z) ∙ g.ends) g.within))
 
     module _ (h : 0 < left) where
       one : left - 1 + 1 ≡ left
       one = omega arith
 
-      pub going_short : length b < p + 2 → SetsTaken n s b Short
-      going_short l = g.leads Short (rw (← one) (sets_too_short n o b (lead_place s (left - 1 + 1)) at p (left - 1) l))
+      pub going_short : length b < p + 2 → SetsTaken n s b (Err Short)
+      going_short l = g.leads (Err Short) (rw (← one) (sets_too_short n o b (lead_place s (left - 1 + 1)) at p (left - 1) l))
 
       module _ (c : ℕ) (same : c ≡ word_at b p) (f : p + 2 ≤ length b) where
-        pub going_wrong : may_have_lem n o (words_at b at (left - 1)) c ≡ false → SetsTaken n s b (Wrong p)
-        going_wrong t = g.leads (Wrong p) (rw (← one) (sets_miscounted n o b (lead_place s (left - 1 + 1)) at p (left - 1) f (rw (← same) t)))
+        pub going_wrong : may_have_lem n o (words_at b at (left - 1)) c ≡ false → SetsTaken n s b (Err (Wrong p))
+        going_wrong t = g.leads (Err (Wrong p)) (rw (← one) (sets_miscounted n o b (lead_place s (left - 1 + 1)) at p (left - 1) f (rw (← same) t)))
 
         module _ (test : may_have_lem n o (words_at b at (left - 1)) c ≡ true) where
-          pub going_stops : (r : Scanned) → SetTaken n c b (p + 2) r → Stopped r → SetsTaken n s b r
-          going_stops r t k =
-              g.leads r (rw (← one) (sets-stops n o b (lead_place s (left - 1 + 1)) at p (left - 1) f (rw (← same) test) _ _ r (rw same at (t (word_at b (lead_place s (left - 1 + 1))))) k))
+          pub going_stops : (x : Fault) → SetTaken n c b (p + 2) (Err x) → SetsTaken n s b (Err x)
+          going_stops x t =
+              g.leads (Err x) (rw (← one) (sets-stops n o b (lead_place s (left - 1 + 1)) at p (left - 1) f (rw (← same) test) _ _ x (rw same at (t (word_at b (lead_place s (left - 1 + 1)))))))
 
-          pub going_next : n ≤ 3 → c < 65536 → (r : Scanned) (q : ℕ) → r ≡ At q → SetTaken n c b (p + 2) r → Going n s b (left - 1) (o + (2 + c * (4 + 2 * n))) (at + 2) q
-          going_next low few r q alike t =
-              let place = took_place r q alike (t 0) in
+          pub going_next : n ≤ 3 → c < 65536 → (q : ℕ) → SetTaken n c b (p + 2) (Ok q) → Going n s b (left - 1) (o + (2 + c * (4 + 2 * n))) (at + 2) q
+          going_next low few q t =
+              let place = (t 0).place in
               let size = size_fits n c low few in
               let ends : q ≡ p + set_size n c = place.0 ∙ omega arith in
               let on : lead_place s left + 2 ≡ lead_place s (left - 1) = omega (arith, g.upto) in
@@ -92,5 +92,5 @@ module _ (n s : ℕ) (b : List ℕ) where
                 leads = λ x u.
                     g.leads x
                     (subst (λ (l : ℕ). Took (settled n (words_at b (lead_place s left) l) (starts_at o l b at)) (sets_at n (words_at b (lead_place s left) l) b p) (end_at n (leads_at s b) b (18 + 4 * s)) b p x) one
-                    (sets_more n o b (lead_place s left) at p (left - 1) f (rw (← same) test) r q alike (rw same at (t (word_at b (lead_place s left)))) x (rw (on, ← same) u)));
+                    (sets_more n o b (lead_place s left) at p (left - 1) f (rw (← same) test) q (rw same at (t (word_at b (lead_place s left)))) x (rw (on, ← same) u)));
               }

@@ -11,11 +11,10 @@ use Rattle.words.proofs.WordLaws.{one_less}
 use Rattle.layouts.specs.Tables.{Rule, evenly}
 use Rattle.scanning.specs.Scans.{Rest, exactly, several}
 use Rattle.scanning.specs.Grammar.{ruled, grouped}
-use Rattle.accepting.specs.declared.Scanned.{Scanned}
-use Rattle.accepting.specs.declared.Scanned.TheVariants.{At}
-use Rattle.accepting.specs.Scanned.{Took, these}
-use Rattle.accepting.proofs.TookLaws.{took_else, took_then, took_place, took_end, took_none, took_map}
-use Rattle.accepting.proofs.SeriesLaws.{Stopped}
+use Rattle.std.specs.Prelude.{Ok, Err}
+use Rattle.accepting.specs.declared.Fault.{Fault}
+use Rattle.accepting.specs.Scanned.{Scanned, Took, these}
+use Rattle.accepting.proofs.TookLaws.{took_else, took_then, took_end, took_none, took_map}
 use Rattle.grouping.specs.Grouped.{rule_at, rules_at, one_rule}
 
 pub evenly-next : (c o by : ℕ) → 0 < c → evenly c o by ≡ o ∷ evenly (c - 1) (o + by) by
@@ -46,24 +45,24 @@ module _ (n : ℕ) (b : List ℕ) (at : ℕ) (lead : ℕ) where
   abbrev behind_number : ℕ → Unit {0} → (Rule → Rest) → Rest
   behind_number ligature u k = several (n - 1) (λ others. k (made ligature others))
 
-  pub rule-stops : (r : Scanned) → Took (several 1) (words_at b at 1) (at + 2 * 1) b at r → Stopped r → Took (one_rule n lead) (rule_at n lead b at) (at + (2 + 2 * n)) b at r
+  pub rule-stops : (f : Fault) → Took (several 1) (words_at b at 1) (at + 2 * 1) b at (Err f) → Took (one_rule n lead) (rule_at n lead b at) (at + (2 + 2 * n)) b at (Err f)
   unfolding several
-  rule-stops r t h = took_else (several 1) behind_ligature _ _ r t h
+  rule-stops f t = took_else (several 1) behind_ligature _ _ f t
 
-  module _ {s : Scanned} (p : ℕ) (same : s ≡ At p) (t : Took (several 1) (words_at b at 1) (at + 2 * 1) b at s) where
-    pub rule-number : (r : Scanned) → Took (these (n ∷ [])) tt (p + 2 * 1) b p r → Stopped r → Took (one_rule n lead) (rule_at n lead b at) (at + (2 + 2 * n)) b at r
+  module _ (p : ℕ) (t : Took (several 1) (words_at b at 1) (at + 2 * 1) b at (Ok p)) where
+    pub rule-number : (f : Fault) → Took (these (n ∷ [])) tt (p + 2 * 1) b p (Err f) → Took (one_rule n lead) (rule_at n lead b at) (at + (2 + 2 * n)) b at (Err f)
     unfolding several words_at
-    rule-number r u h = took_then (several 1) behind_ligature s p same t r (took_else (these (n ∷ [])) (behind_number (word_at b at)) _ _ r u h)
+    rule-number f u = took_then (several 1) behind_ligature p t (Err f) (took_else (these (n ∷ [])) (behind_number (word_at b at)) _ _ f u)
 
     pub rule_taken :
-        {f : Scanned} (q : ℕ) → f ≡ At q → Took (these (n ∷ [])) tt (p + 2 * 1) b p f → 0 < n → (r : Scanned) → Took (several (n - 1)) (words_at b q (n - 1)) (q + 2 * (n - 1)) b q r
+        (q : ℕ) → Took (these (n ∷ [])) tt (p + 2 * 1) b p (Ok q) → 0 < n → (r : Scanned) → Took (several (n - 1)) (words_at b q (n - 1)) (q + 2 * (n - 1)) b q r
         → Took (one_rule n lead) (rule_at n lead b at) (at + (2 + 2 * n)) b at r
     unfolding several words_at rule_at
-    rule_taken {f} q alike u low r v =
-        let four : q ≡ at + 4 = omega (arith, (took_place s p same t).0, (took_place f q alike u).0) in
+    rule_taken q u low r v =
+        let four : q ≡ at + 4 = omega (arith, t.place.0, u.place.0) in
         let end : at + 4 + 2 * (n - 1) ≡ at + (2 + 2 * n) = omega (arith, low) in
-        took_then (several 1) behind_ligature s p same t r
-        (took_then (these (n ∷ [])) (behind_number (word_at b at)) f q alike u r
+        took_then (several 1) behind_ligature p t r
+        (took_then (these (n ∷ [])) (behind_number (word_at b at)) q u r
         (rw (four, ← end) (took_map (several (n - 1)) (made (word_at b at)) (rw four at v))))
 
 -- ---- rules behind each other
@@ -71,22 +70,22 @@ module _ (n : ℕ) (b : List ℕ) (p : ℕ) (lead : ℕ) where
   abbrev others : ℕ → Rule → (List Rule → Rest) → Rest
   others c r k = ruled n lead c (λ set. k (r ∷ set))
 
-  pub rules-stops : (left : ℕ) {value : List Rule} {end : ℕ} → 0 < left → (r : Scanned) → Took (one_rule n lead) (rule_at n lead b p) (p + (2 + 2 * n)) b p r → Stopped r → Took (ruled n lead left) value end b p r
+  pub rules-stops : (left : ℕ) {value : List Rule} {end : ℕ} → 0 < left → (f : Fault) → Took (one_rule n lead) (rule_at n lead b p) (p + (2 + 2 * n)) b p (Err f) → Took (ruled n lead left) value end b p (Err f)
   unfolding ruled
-  rules-stops zero h r t k = absurd (omega arith)
-  rules-stops (suc c) h r t k = took_else (one_rule n lead) (others c) _ _ r t k
+  rules-stops zero h f t = absurd (omega arith)
+  rules-stops (suc c) h f t = took_else (one_rule n lead) (others c) _ _ f t
 
   pub rules-more :
-      (left : ℕ) {end : ℕ} → 0 < left → (s : Scanned) (q : ℕ) → s ≡ At q → Took (one_rule n lead) (rule_at n lead b p) (p + (2 + 2 * n)) b p s
+      (left : ℕ) {end : ℕ} → 0 < left → (q : ℕ) → Took (one_rule n lead) (rule_at n lead b p) (p + (2 + 2 * n)) b p (Ok q)
       → (r : Scanned) → Took (ruled n lead (left - 1)) (rules_at n lead (left - 1) b q) end b q r → Took (ruled n lead left) (rules_at n lead left b p) end b p r
   unfolding ruled rules_at
-  rules-more zero h s q same t r u = absurd (omega arith)
-  rules-more (suc c) h s q same t r u =
-      let step : q ≡ p + (2 + 2 * n) = (took_place s q same t).0 in
+  rules-more zero h q t r u = absurd (omega arith)
+  rules-more (suc c) h q t r u =
+      let step : q ≡ p + (2 + 2 * n) = t.place.0 in
       let less : suc c - 1 ≡ c = omega arith in
-      took_then (one_rule n lead) (others c) s q same t r (rw (← step) (took_map (ruled n lead c) (λ set. rule_at n lead b p ∷ set) (rw less at u)))
+      took_then (one_rule n lead) (others c) q t r (rw (← step) (took_map (ruled n lead c) (λ set. rule_at n lead b p ∷ set) (rw less at u)))
 
-  pub rules-none : {end : ℕ} → p ≡ end → p ≤ length b → Took (ruled n lead 0) (rules_at n lead 0 b p) end b p (At p)
+  pub rules-none : {end : ℕ} → p ≡ end → p ≤ length b → Took (ruled n lead 0) (rules_at n lead 0 b p) end b p (Ok p)
   unfolding ruled rules_at
   rules-none e h = took_none b p e h
 
@@ -96,14 +95,14 @@ module _ (n c : ℕ) (b : List ℕ) (at : ℕ) (lead : ℕ) where
   behind_offsets u k = ruled n lead c k
 
   pub set-stops :
-      (r : Scanned) → Took (these (evenly c (2 + 2 * c) (2 + 2 * n))) tt (at + 2 * c) b at r → Stopped r
-      → Took (grouped n lead c) (rules_at n lead c b (at + 2 * c)) (at + c * (4 + 2 * n)) b at r
-  set-stops r t h = took_else (these (evenly c (2 + 2 * c) (2 + 2 * n))) behind_offsets _ _ r t h
+      (f : Fault) → Took (these (evenly c (2 + 2 * c) (2 + 2 * n))) tt (at + 2 * c) b at (Err f)
+      → Took (grouped n lead c) (rules_at n lead c b (at + 2 * c)) (at + c * (4 + 2 * n)) b at (Err f)
+  set-stops f t = took_else (these (evenly c (2 + 2 * c) (2 + 2 * n))) behind_offsets _ _ f t
 
   pub set_taken :
-      {s : Scanned} (p : ℕ) → s ≡ At p → Took (these (evenly c (2 + 2 * c) (2 + 2 * n))) tt (at + 2 * c) b at s
+      (p : ℕ) → Took (these (evenly c (2 + 2 * c) (2 + 2 * n))) tt (at + 2 * c) b at (Ok p)
       → (r : Scanned) → Took (ruled n lead c) (rules_at n lead c b p) (p + c * (2 + 2 * n)) b p r → Took (grouped n lead c) (rules_at n lead c b (at + 2 * c)) (at + c * (4 + 2 * n)) b at r
-  set_taken {s} p same t r u =
-      let two : p ≡ at + 2 * c = (took_place s p same t).0 in
+  set_taken p t r u =
+      let two : p ≡ at + 2 * c = t.place.0 in
       let end : p + c * (2 + 2 * n) ≡ at + c * (4 + 2 * n) = omega (arith, two) in
-      took_then (these (evenly c (2 + 2 * c) (2 + 2 * n))) behind_offsets s p same t r (rw (← two) (took_end end u))
+      took_then (these (evenly c (2 + 2 * c) (2 + 2 * n))) behind_offsets p t r (rw (← two) (took_end end u))

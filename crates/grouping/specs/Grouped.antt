@@ -5,8 +5,7 @@ use Rattle.words.specs.Words.{word_at, words_at}
 use Rattle.layouts.specs.Tables.{Rule}
 use Rattle.scanning.specs.Scans.{Rest, next, any, exactly, several}
 use Rattle.scanning.specs.Grammar.{set_size, most_rules, ruled, grouped, settled}
-use Rattle.accepting.specs.declared.Scanned.{Scanned}
-use Rattle.accepting.specs.Scanned.{Took}
+use Rattle.accepting.specs.Scanned.{Scanned, Took}
 
 -- the rule at byte p, of n components, the first of which is `lead`
 unfoldable pub rule_at : ℕ → ℕ → List ℕ → ℕ → Rule

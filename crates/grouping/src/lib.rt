@@ -8,7 +8,7 @@ ghost use Rattle.scanning.specs.Grammar.{is_size_lem, later, starts};
 ghost use Rattle.accepting.specs.Scanned.{Took, these};
 ghost use Rattle.grouping.specs.Grouped.{starts_at, may_have_lem, RuleTaken, RulesTaken, SetTaken, SetsTaken};
 
-use accepting::Scanned;
+use accepting::{Fault, Scanned};
 
 // Whether a set of rules of `n` components may take `size` bytes.
 fn is_size(n: usize, size: usize) -> bool
@@ -28,26 +28,24 @@ fn later(n: usize, count: usize, start: usize, bytes: &[u8], at: usize) -> Scann
     requires { (at ≤ length bytes.now) × (n ≤ 3) × (count < 65536) }
     ensures { Took (later n count start) (words_at bytes.now at count) (at + 2 * count) bytes.now at result }
 {
-    let mut left = count;
     let mut o = start;
-    let mut p = at;
-    while 0 < left {
+    for i in 0..count {
+        let p = at + 2 * i;
         if bytes.len() - p < 2 {
-            return Scanned::Short;
+            return Err(Fault::Short);
         }
-        left -= 1;
-        let w = words::u16_at(bytes, p) as usize;
+        let left = count - 1 - i;
+        let w = usize::from(words::u16_at(bytes, p));
         if w < o {
-            return Scanned::Wrong(p);
+            return Err(Fault::Wrong(p));
         }
         if is_size(n, w - o) & (w + left * (6 + 2 * n) < 65536) {
             o = w;
-            p += 2;
         } else {
-            return Scanned::Wrong(p);
+            return Err(Fault::Wrong(p));
         }
     }
-    Scanned::At(p)
+    Ok(at + 2 * count)
 }
 
 // Where `s` sets begin.
@@ -56,14 +54,10 @@ pub fn starts(n: usize, s: usize, bytes: &[u8], at: usize) -> Scanned
     ensures { Took (starts n s) (starts_at (10 + 4 * s) s bytes.now (at + 2)) (at + 2 * s) bytes.now at result }
 {
     if s == 0 {
-        return Scanned::At(at);
+        return Ok(at);
     }
     let start = 10 + 4 * s;
-    let words = [start as u16];
-    let first = accepting::exactly(&words, bytes, at);
-    let Scanned::At(p) = first else {
-        return first;
-    };
+    let p = accepting::exactly(&[start as u16], bytes, at)?;
     later(n, s - 1, start, bytes, p)
 }
 
@@ -72,21 +66,18 @@ fn evenly(c: usize, first: usize, by: usize, bytes: &[u8], at: usize) -> Scanned
     requires { (at ≤ length bytes.now) × (first + c * by < 1048576) }
     ensures { Took (these (evenly c first by)) tt (at + 2 * c) bytes.now at result }
 {
-    let mut left = c;
     let mut o = first;
-    let mut p = at;
-    while 0 < left {
+    for i in 0..c {
+        let p = at + 2 * i;
         if bytes.len() - p < 2 {
-            return Scanned::Short;
+            return Err(Fault::Short);
         }
-        if words::u16_at(bytes, p) as usize != o {
-            return Scanned::Wrong(p);
+        if usize::from(words::u16_at(bytes, p)) != o {
+            return Err(Fault::Wrong(p));
         }
-        left -= 1;
         o += by;
-        p += 2;
     }
-    Scanned::At(p)
+    Ok(at + 2 * c)
 }
 
 // A rule: its ligature, the number of its components, the components behind the first.
@@ -94,15 +85,8 @@ fn rule(n: usize, bytes: &[u8], at: usize) -> Scanned
     requires { (at ≤ length bytes.now) × (0 < n) × (n ≤ 3) }
     ensures { RuleTaken n bytes.now at result }
 {
-    let ligature = accepting::several(1, bytes, at);
-    let Scanned::At(p) = ligature else {
-        return ligature;
-    };
-    let numbers = [n as u16];
-    let number = accepting::exactly(&numbers, bytes, p);
-    let Scanned::At(q) = number else {
-        return number;
-    };
+    let p = accepting::several(1, bytes, at)?;
+    let q = accepting::exactly(&[n as u16], bytes, p)?;
     accepting::several(n - 1, bytes, q)
 }
 
@@ -111,17 +95,11 @@ fn rules(n: usize, c: usize, bytes: &[u8], at: usize) -> Scanned
     requires { (at ≤ length bytes.now) × (0 < n) × (n ≤ 3) }
     ensures { RulesTaken n c bytes.now at result }
 {
-    let mut left = c;
     let mut p = at;
-    while 0 < left {
-        let one = rule(n, bytes, p);
-        let Scanned::At(q) = one else {
-            return one;
-        };
-        left -= 1;
-        p = q;
+    for i in 0..c {
+        p = rule(n, bytes, p)?;
     }
-    Scanned::At(p)
+    Ok(p)
 }
 
 // What stands behind the count of a set of `c` rules: where they begin, and they.
@@ -129,10 +107,7 @@ fn set(n: usize, c: usize, bytes: &[u8], at: usize) -> Scanned
     requires { (at ≤ length bytes.now) × (0 < n) × (n ≤ 3) × (c < 65536) }
     ensures { SetTaken n c bytes.now at result }
 {
-    let offsets = evenly(c, 2 + 2 * c, 2 + 2 * n, bytes, at);
-    let Scanned::At(p) = offsets else {
-        return offsets;
-    };
+    let p = evenly(c, 2 + 2 * c, 2 + 2 * n, bytes, at)?;
     rules(n, c, bytes, p)
 }
 
@@ -144,7 +119,7 @@ fn may_have(n: usize, c: usize, o: usize, left: usize, bytes: &[u8], at: usize) 
     if left == 0 {
         return (1 <= c) & (c <= (65535 + 2 * n) / (4 + 2 * n));
     }
-    o + (2 + c * (4 + 2 * n)) == words::u16_at(bytes, at) as usize
+    o + (2 + c * (4 + 2 * n)) == usize::from(words::u16_at(bytes, at))
 }
 
 // The sets: their offsets begin at byte 14, their first glyphs stand behind these and the head of the coverage, and they behind the glyphs.
@@ -152,27 +127,20 @@ pub fn sets(n: usize, s: usize, bytes: &[u8]) -> Scanned
     requires { (0 < n) × (n ≤ 3) × (s < 16000) × (18 + 4 * s ≤ length bytes.now) }
     ensures { SetsTaken n s bytes.now result }
 {
-    let mut left = s;
     let mut o = 10 + 4 * s;
-    let mut next = 16;
     let mut p = 18 + 4 * s;
-    while 0 < left {
+    for i in 0..s {
         if bytes.len() - p < 2 {
-            return Scanned::Short;
+            return Err(Fault::Short);
         }
-        left -= 1;
-        let c = words::u16_at(bytes, p) as usize;
-        if may_have(n, c, o, left, bytes, next) {
-            let one = set(n, c, bytes, p + 2);
-            let Scanned::At(q) = one else {
-                return one;
-            };
+        let left = s - 1 - i;
+        let c = usize::from(words::u16_at(bytes, p));
+        if may_have(n, c, o, left, bytes, 16 + 2 * i) {
+            p = set(n, c, bytes, p + 2)?;
             o += 2 + c * (4 + 2 * n);
-            next += 2;
-            p = q;
         } else {
-            return Scanned::Wrong(p);
+            return Err(Fault::Wrong(p));
         }
     }
-    Scanned::At(p)
+    Ok(p)
 }

@@ -1,14 +1,14 @@
--- What the call knows where it answers: numbers of components that are known (`low-and-high`); and of columns of one shape, lent as numbers of 16 bits (`Lent`): numbers small enough that no sum overflows (`product_small`, `extent_small`), each refusal (`many_refused`, `offset_refused`, `set_refused`, `room_refused`), what fits (`all_fit`) and what is not refused (`not_refused`).
+-- What the call knows where it answers: numbers of components that are known, and others (`low-and-high`, `other_number`); and of columns of one shape, lent as numbers of 16 bits (`Lent`): numbers small enough that no sum overflows (`product_small`, `extent_small`), each refusal (`many_refused`, `offset_refused`, `set_refused`, `room_refused`), what fits (`all_fit`) and what is not refused (`not_refused`).
 -- Assumes nothing.
-use mathlib.Core.Path.{◌≡◌, refl, ap, ◌∙◌}
-use mathlib.Core.Bool.{Bool, true, false, ◌||◌}
+use mathlib.Core.Path.{◌≡◌, refl, sym, ap, ◌∙◌}
+use mathlib.Core.Bool.{Bool, true, false, not, ◌&&◌, ◌||◌, false≢true}
 use mathlib.Core.List.{List}
 use Prim.Native.Nat.{ℕ, ◌+◌, ◌*◌, ◌<◌, ◌≤◌}
 use native.Mathlib.Nat.{mul-le-mul_right, mul-le-mul_left}
 use native.Mathlib.Omega.{arith}
 use borrow.Author.Tests.{eq-eqb, eqb-true, eqb-false}
 use lib.Dec.{eqb}
-use lib.ListN.{length, get_or}
+use lib.ListN.{length}
 use Rattle.refusals.specs.declared.Refusal.TheVariants.{Offset, NoRoom}
 use Rattle.layouts.specs.declared.Kind.TheVariants.{Ligature}
 use Rattle.std.specs.Prelude.{Err}
@@ -16,7 +16,6 @@ use Rattle.layouts.specs.Tables.{sets, ligature}
 use Rattle.layouts.specs.Lookups.{lookup_of, known, rules, fits}
 use Rattle.layouts.specs.Extents.{longest, last_from}
 use Rattle.layouts.specs.Written.{Writing}
-use Rattle.layouts.proofs.FitLaws.{fits-lent}
 use Rattle.layouts.proofs.SizeLaws.{length-rules, size-ligature}
 use Rattle.layouts.proofs.LimitLaws.{Regular, regular-rules, sets-few, longest-few, last-few, ligature-within, offset-over, set-over, too_many}
 use Rattle.layouts.proofs.WrittenLaws.{Allowed, offset-given, room-given, written_refused}
@@ -30,23 +29,33 @@ in_range {n} low high = go (eqb n 2) refl
     go true e = refl
     go false e = eq-eqb n 3 (omega (arith, eqb-false n 2 e))
 
-pub low-and-high : (n : ℕ) → known (Ligature n) ≡ true → (2 ≤ n) × (n ≤ 3)
-low-and-high n = go (eqb n 2) refl
+-- the test that code makes of it
+pub other_number : (n : ℕ) → (not (eqb n 2) && not (eqb n 3)) ≡ true → known (Ligature n) ≡ false
+other_number n = go (eqb n 2) (eqb n 3)
   where
-    go : (t : Bool) → eqb n 2 ≡ t → (t || eqb n 3) ≡ true → (2 ≤ n) × (n ≤ 3)
-    go true e k = let two = eqb-true n 2 e in (omega arith, omega arith)
-    go false e k = let three = eqb-true n 3 k in (omega arith, omega arith)
+    go : (s t : Bool) → (not s && not t) ≡ true → (s || t) ≡ false
+    go true t e = absurd (false≢true e)
+    go false true e = absurd (false≢true e)
+    go false false e = refl
+
+pub low-and-high : (n : ℕ) → (not (eqb n 2) && not (eqb n 3)) ≡ false → (2 ≤ n) × (n ≤ 3)
+low-and-high n = go (eqb n 2) (eqb n 3) refl refl
+  where
+    go : (s t : Bool) → eqb n 2 ≡ s → eqb n 3 ≡ t → (not s && not t) ≡ false → (2 ≤ n) × (n ≤ 3)
+    go true t e f k = let two = eqb-true n 2 e in (omega arith, omega arith)
+    go false true e f k = let three = eqb-true n 3 f in (omega arith, omega arith)
+    go false false e f k = absurd (false≢true (sym k))
 
 -- ---- columns of one shape, with flags and numbers of 16 bits
 pub record Lent (flags n : ℕ) (cs ls : List ℕ) : Type 0 where
   pub shape : Shape n cs ls
   pub flags-fit : flags < 65536
-  pub components-fit : (i : ℕ) → get_or cs i 0 < 65536
-  pub ligatures-fit : (i : ℕ) → get_or ls i 0 < 65536
+  pub components-fit : fits cs ≡ true
+  pub ligatures-fit : fits ls ≡ true
 
 module _ {flags n : ℕ} {cs ls : List ℕ} (l : Lent flags n cs ls) where
   regular : Regular n (rules n cs ls)
-  regular = regular-rules n cs ls (omega (arith, l.shape.high)) l.shape.flat (fits-lent cs l.components-fit) (fits-lent ls l.ligatures-fit)
+  regular = regular-rules n cs ls (omega (arith, l.shape.high)) l.shape.flat l.components-fit l.ligatures-fit
 
   positive : 0 < n
   positive = omega (arith, l.shape.low)

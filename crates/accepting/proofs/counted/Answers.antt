@@ -1,6 +1,7 @@
 -- `accepting::counted` meets its contract.
 -- Assumes nothing.
 use native.Mathlib.Omega.{arith}
+use mathlib.Core.Path.{◌∙◌}
 use mathlib.Core.Bool.{not}
 use Prim.Native.Nat.{◌%◌}
 use borrow.Author.Tests.{ltb-false}
@@ -16,23 +17,19 @@ pub returns-then-bytes-at-lt2 : goal.returns-then-bytes-at-lt2
 returns-then-bytes-at-lt2 c =
     (counted-short c.args.most c.args.bytes.now c.args.at (omega (arith, c.requires.0, c.if-bytes-at-lt2.true)), tt)
 
-pub u16_at-o-requires : goal.u16_at-o-requires
-u16_at-o-requires c = omega (arith, c.requires.0, c.if-bytes-at-lt2.false)
+pub u16_at-requires : goal.u16_at-requires
+u16_at-requires c = omega (arith, c.requires.0, c.if-bytes-at-lt2.false)
 
 pub returns-then-o : goal.returns-then-o
 returns-then-o c =
-    (counted_odd c.args.most c.args.bytes.now c.args.at (omega (arith, c.requires.0, c.if-bytes-at-lt2.false)) c.u16_at-o.result c.u16_at-o.ensures c.if-o.true, tt)
+    (counted_odd c.args.most c.args.bytes.now c.args.at (omega (arith, c.requires.0, c.if-bytes-at-lt2.false)) c.from-o.result (c.from-o.ensures ∙ c.u16_at.ensures) c.if-o.true, tt)
 
 pub overflow_sub-n : goal.overflow_sub-n
-overflow_sub-n c = omega (arith, ltb-false c.u16_at-o.result 6 (neither (ltb c.u16_at-o.result 6) (not (eqb (c.u16_at-o.result % 2) 0)) c.if-o.false).0)
+overflow_sub-n c = omega (arith, ltb-false c.from-o.result 6 (neither (ltb c.from-o.result 6) (not (eqb (c.from-o.result % 2) 0)) c.if-o.false).0)
 
 pub returns-then-most-n : goal.returns-then-most-n
 returns-then-most-n c =
-    (counted-many c.args.most c.args.bytes.now c.args.at (omega (arith, c.requires.0, c.if-bytes-at-lt2.false)) c.u16_at-o.result c.u16_at-o.ensures c.if-most-n.true, tt)
-
-pub overflow_cast-count : goal.overflow_cast-count
-overflow_cast-count c =
-    omega (arith, c.if-most-n.false, c.requires.1)
+    (counted-many c.args.most c.args.bytes.now c.args.at (omega (arith, c.requires.0, c.if-bytes-at-lt2.false)) c.from-o.result (c.from-o.ensures ∙ c.u16_at.ensures) c.if-most-n.true, tt)
 
 pub overflow_add-at : goal.overflow_add-at
 overflow_add-at c =
@@ -44,6 +41,6 @@ exactly-requires c =
 
 pub returns : goal.returns
 returns c = (
-  counted_taken c.args.most c.args.bytes.now c.args.at (omega (arith, c.requires.0, c.if-bytes-at-lt2.false)) c.u16_at-o.result c.u16_at-o.ensures c.if-o.false c.if-most-n.false _ c.exactly.ensures,
-  rw (← c.u16_at-o.ensures) (counts-known c.exactly.result c.args.most c.u16_at-o.result c.if-o.false c.if-most-n.false),
+  counted_taken c.args.most c.args.bytes.now c.args.at (omega (arith, c.requires.0, c.if-bytes-at-lt2.false)) c.from-o.result (c.from-o.ensures ∙ c.u16_at.ensures) c.if-o.false c.if-most-n.false _ c.exactly.ensures,
+  rw (← c.u16_at.ensures, ← c.from-o.ensures) (counts-known c.exactly.result c.args.most c.from-o.result c.if-o.false c.if-most-n.false),
 )

@@ -1,61 +1,65 @@
 -- `grouping::evenly` meets its contract: what the words still to come are answered is the answer for all.
 -- Assumes nothing.
 use native.Mathlib.Omega.{arith}
-use mathlib.Core.Path.{◌≡◌, refl, sym, ◌∙◌}
-use Prim.Native.Nat.{◌+◌, ◌≤◌}
+use mathlib.Core.Path.{◌≡◌, sym, ◌∙◌}
+use Prim.Native.Nat.{◌+◌, ◌-◌, ◌*◌, ◌≤◌, ◌<◌}
 use lib.ListN.{length}
-use Rattle.accepting.specs.declared.Scanned.TheVariants.{At, Wrong, Short}
+use Rattle.std.specs.Prelude.{Ok, Err}
+use Rattle.accepting.specs.declared.Fault.TheVariants.{Wrong, Short}
 use Rattle.accepting.proofs.PieceLaws.{these-short, these-wrong, these-more, these-none}
 use Rattle.grouping.proofs.RuleLaws.{evenly-next, more}
 use Rattle.grouping.proofs.evenly.Goals as goal
+use Rattle.grouping.proofs.evenly.Goals.{In-loop-i}
 
-pub loop-left-init : goal.loop-left-init
-loop-left-init c = (omega arith, c.requires.0, refl, refl, λ r t. t)
+some : (s : In-loop-i) → 0 < s.args.c - s.loop-i.i
+some s = omega (arith, s.loop-i-test.true)
+
+pub loop-i-init : goal.loop-i-init
+loop-i-init c =
+    let a = c.args in
+    let all : a.c - 0 ≡ a.c = omega arith in
+    let start : a.at + 0 ≡ a.at = omega arith in
+    (omega (arith, c.requires.0), rw all, λ r t. rw (all, start) at t)
 
 pub overflow_sub-bytes : goal.overflow_sub-bytes
-overflow_sub-bytes c = omega (arith, c.loop-left.invariant.1)
+overflow_sub-bytes c = omega (arith, c.loop-i.invariant.0)
 
 pub returns-then-bytes-p-lt2 : goal.returns-then-bytes-p-lt2
 returns-then-bytes-p-lt2 c =
     let a = c.args in
-    c.loop-left.invariant.4 Short (rw (evenly-next c.loop-left.left c.loop-left.o a.by c.loop-left-test.true) (these-short _ _ a.bytes.now c.loop-left.p (omega (arith, c.loop-left.invariant.1, c.if-bytes-p-lt2.true))))
+    let l = c.loop-i in
+    l.invariant.2 (Err Short) (rw (evenly-next (a.c - l.i) l.o a.by (some (goal.at.returns-then-bytes-p-lt2 c).In-loop-i)) (these-short _ _ a.bytes.now (a.at + 2 * l.i) (omega (arith, l.invariant.0, c.if-bytes-p-lt2.true))))
 
-pub u16_at-requires : goal.u16_at-requires
-u16_at-requires c = omega (arith, c.loop-left.invariant.1, c.if-bytes-p-lt2.false)
-
-pub returns-then-u16_at-o : goal.returns-then-u16_at-o
-returns-then-u16_at-o c =
+pub returns-then-from-o : goal.returns-then-from-o
+returns-then-from-o c =
     let a = c.args in
-    c.loop-left.invariant.4 (Wrong c.loop-left.p) (rw (evenly-next c.loop-left.left c.loop-left.o a.by c.loop-left-test.true) (these-wrong _ _ a.bytes.now c.loop-left.p (omega (arith, c.loop-left.invariant.1, c.if-bytes-p-lt2.false)) (λ q. c.if-u16_at-o.true (c.u16_at.ensures ∙ q))))
-
-pub overflow_sub-left : goal.overflow_sub-left
-overflow_sub-left c = omega (arith, c.loop-left-test.true)
+    let l = c.loop-i in
+    l.invariant.2 (Err (Wrong (a.at + 2 * l.i))) (rw (evenly-next (a.c - l.i) l.o a.by (some (goal.at.returns-then-from-o c).In-loop-i)) (these-wrong _ _ a.bytes.now (a.at + 2 * l.i) (omega (arith, l.invariant.0, c.if-bytes-p-lt2.false)) (λ q. c.if-from-o.true (c.from.ensures ∙ c.u16_at.ensures ∙ q))))
 
 pub overflow_add-o : goal.overflow_add-o
 overflow_add-o c =
     let a = c.args in
-    omega (arith, c.loop-left.invariant.3, c.requires.1, more c.loop-left.left a.by c.loop-left-test.true)
+    let l = c.loop-i in
+    omega (arith, l.invariant.1, c.requires.1, more (a.c - l.i) a.by (some (goal.at.overflow_add-o c).In-loop-i))
 
-pub overflow_add-p : goal.overflow_add-p
-overflow_add-p c =
-    omega (arith, c.loop-left.invariant.1, c.if-bytes-p-lt2.false)
-
-pub loop-left-smaller : goal.loop-left-smaller
-loop-left-smaller c = omega (arith, c.loop-left-test.true)
-
-pub loop-left-preserved : goal.loop-left-preserved
-loop-left-preserved c =
+pub loop-i-preserved : goal.loop-i-preserved
+loop-i-preserved c =
     let a = c.args in
-    let fits : c.loop-left.p + 2 ≤ length a.bytes.now = omega (arith, c.loop-left.invariant.1, c.if-bytes-p-lt2.false) in (
-      omega (arith, c.loop-left.invariant.0),
-      fits,
-      omega (arith, c.loop-left.invariant.2, c.loop-left-test.true),
-      omega (arith, c.loop-left.invariant.3, more c.loop-left.left a.by c.loop-left-test.true),
-      λ r t. c.loop-left.invariant.4 r (rw (evenly-next c.loop-left.left c.loop-left.o a.by c.loop-left-test.true) (these-more _ _ a.bytes.now c.loop-left.p fits (sym c.u16_at.ensures ∙ c.if-u16_at-o.false) r t)),
+    let l = c.loop-i in
+    let left = some (goal.at.loop-i-preserved c).In-loop-i in
+    let fits : a.at + 2 * l.i + 2 ≤ length a.bytes.now = omega (arith, l.invariant.0, c.if-bytes-p-lt2.false) in
+    let on : a.at + 2 * l.i + 2 ≡ a.at + 2 * (l.i + 1) = omega arith in
+    let less : a.c - l.i - 1 ≡ a.c - (l.i + 1) = omega arith in (
+      omega (arith, fits),
+      rw (← less) (omega (arith, l.invariant.1, more (a.c - l.i) a.by left)),
+      λ r t. l.invariant.2 r (rw (evenly-next (a.c - l.i) l.o a.by left) (these-more _ _ a.bytes.now (a.at + 2 * l.i) fits (sym c.u16_at.ensures ∙ sym c.from.ensures ∙ c.if-from-o.false) r (rw (on, less) t))),
     )
 
 pub returns : goal.returns
 returns c =
     let a = c.args in
-    let none : c.loop-left.left ≡ 0 = omega (arith, c.loop-left-test.false) in
-    c.loop-left.invariant.4 (At c.loop-left.p) (rw none (these-none a.bytes.now c.loop-left.p (omega (arith, c.loop-left.invariant.2, none)) c.loop-left.invariant.1))
+    let l = c.loop-i in
+    let all : l.i ≡ a.c = omega (arith, c.loop-i-test.false, l.auto.i-end) in
+    let none : a.c - l.i ≡ 0 = omega (arith, all) in
+    let end : a.at + 2 * l.i ≡ a.at + 2 * a.c = omega (arith, all) in
+    l.invariant.2 (Ok (a.at + 2 * a.c)) (rw (none, end) (these-none a.bytes.now (a.at + 2 * a.c) (omega arith) (omega (arith, end, l.invariant.0))))

@@ -1,90 +1,84 @@
 -- `grouping::later` meets its contract: what the offsets still to come are answered is the answer for all.
 -- Assumes nothing.
 use native.Mathlib.Omega.{arith}
-use mathlib.Core.Path.{◌≡◌, refl}
+use mathlib.Core.Path.{◌≡◌, ◌∙◌}
 use mathlib.Core.Bool.{true, false}
-use Prim.Native.Nat.{◌+◌, ◌-◌, ◌≤◌}
+use Prim.Native.Nat.{ℕ, ◌+◌, ◌-◌, ◌*◌, ◌≤◌}
 use lib.ListN.{length}
+use Rattle.std.specs.Prelude.{Ok, Err}
 use Rattle.words.specs.Words.{word_at}
-use Rattle.accepting.specs.declared.Scanned.TheVariants.{At, Wrong, Short}
+use Rattle.accepting.specs.declared.Fault.TheVariants.{Wrong, Short}
 use Rattle.grouping.proofs.StartLaws.{stands, room_fits, later-short, later-low, later-wrong, later_more, later-none}
 use Rattle.grouping.proofs.later.Goals as goal
+use Rattle.grouping.proofs.later.Goals.{In-loop-i}
 
-pub loop-left-init : goal.loop-left-init
-loop-left-init c = (omega arith, c.requires.0, refl, λ r t. t)
+-- how many offsets are left behind this one, and with it
+behind : (s : In-loop-i) → s.args.count - 1 - s.loop-i.i + 1 ≡ s.args.count - s.loop-i.i
+behind s = omega (arith, s.loop-i-test.true)
+
+pub loop-i-init : goal.loop-i-init
+loop-i-init c =
+    let a = c.args in
+    let all : a.count - 0 ≡ a.count = omega arith in
+    let start : a.at + 0 ≡ a.at = omega arith in
+    (omega (arith, c.requires.0), λ r t. rw (all, start) at t)
 
 pub overflow_sub-bytes : goal.overflow_sub-bytes
-overflow_sub-bytes c = omega (arith, c.loop-left.invariant.1)
+overflow_sub-bytes c = omega (arith, c.loop-i.invariant.0)
 
 pub returns-then-bytes-p-lt2 : goal.returns-then-bytes-p-lt2
 returns-then-bytes-p-lt2 c =
     let a = c.args in
-    c.loop-left.invariant.3 Short (later-short a.n c.loop-left.o a.bytes.now c.loop-left.p c.loop-left.left c.loop-left-test.true (omega (arith, c.loop-left.invariant.1, c.if-bytes-p-lt2.true)))
-
-pub overflow_sub-left : goal.overflow_sub-left
-overflow_sub-left c = omega (arith, c.loop-left-test.true)
-
-pub u16_at-w-requires : goal.u16_at-w-requires
-u16_at-w-requires c = omega (arith, c.loop-left.invariant.1, c.if-bytes-p-lt2.false)
+    let l = c.loop-i in
+    l.invariant.1 (Err Short) (later-short a.n l.o a.bytes.now (a.at + 2 * l.i) (a.count - l.i) (omega (arith, c.loop-i-test.true)) (omega (arith, l.invariant.0, c.if-bytes-p-lt2.true)))
 
 pub returns-then-w-o : goal.returns-then-w-o
 returns-then-w-o c =
     let a = c.args in
-    let one : c.loop-left.left - 1 + 1 ≡ c.loop-left.left = omega (arith, c.loop-left-test.true) in
-    c.loop-left.invariant.3 (Wrong c.loop-left.p) (rw (← one) (later-low a.n c.loop-left.o a.bytes.now c.loop-left.p (c.loop-left.left - 1) (omega (arith, c.loop-left.invariant.1, c.if-bytes-p-lt2.false)) (omega (arith, c.u16_at-w.ensures, c.if-w-o.true))))
+    let l = c.loop-i in
+    l.invariant.1 (Err (Wrong (a.at + 2 * l.i))) (rw (← behind (goal.at.returns-then-w-o c).In-loop-i) (later-low a.n l.o a.bytes.now (a.at + 2 * l.i) (a.count - 1 - l.i) (omega (arith, l.invariant.0, c.if-bytes-p-lt2.false)) (omega (arith, c.from-w.ensures, c.u16_at.ensures, c.if-w-o.true))))
 
 pub is_size-requires : goal.is_size-requires
 is_size-requires c =
-    (c.requires.1, omega (arith, c.u16_at-w.type_inv))
-
-pub overflow_mul-n : goal.overflow_mul-n
-overflow_mul-n c =
-    omega (arith, c.requires.1)
-
-pub overflow_add-n : goal.overflow_add-n
-overflow_add-n c =
-    omega (arith, c.requires.1)
+    (c.requires.1, omega (arith, c.from-w.ensures, c.u16_at.type_inv))
 
 pub overflow_mul-left : goal.overflow_mul-left
 overflow_mul-left c =
-    omega (arith, room_fits c.args.n (c.loop-left.left - 1) c.requires.1 (omega (arith, c.loop-left.invariant.0, c.requires.2)))
+    omega (arith, room_fits c.args.n (c.args.count - 1 - c.loop-i.i) c.requires.1 (omega (arith, c.requires.2)))
 
 pub overflow_add-w : goal.overflow_add-w
 overflow_add-w c =
-    omega (arith, room_fits c.args.n (c.loop-left.left - 1) c.requires.1 (omega (arith, c.loop-left.invariant.0, c.requires.2)), c.u16_at-w.type_inv)
+    omega (arith, room_fits c.args.n (c.args.count - 1 - c.loop-i.i) c.requires.1 (omega (arith, c.requires.2)), c.from-w.ensures, c.u16_at.type_inv)
 
-pub overflow_add-p : goal.overflow_add-p
-overflow_add-p c =
-    omega (arith, c.loop-left.invariant.1, c.if-bytes-p-lt2.false)
-
-pub loop-left-smaller : goal.loop-left-smaller
-loop-left-smaller c =
-    omega (arith, c.loop-left-test.true)
-
-pub loop-left-preserved : goal.loop-left-preserved
-loop-left-preserved c =
+pub loop-i-preserved : goal.loop-i-preserved
+loop-i-preserved c =
     let a = c.args in
-    let w = c.u16_at-w.ensures in
-    let one : c.loop-left.left - 1 + 1 ≡ c.loop-left.left = omega (arith, c.loop-left-test.true) in
-    let fits : c.loop-left.p + 2 ≤ length a.bytes.now = omega (arith, c.loop-left.invariant.1, c.if-bytes-p-lt2.false) in
-    let test : stands a.n c.loop-left.o (c.loop-left.left - 1) (word_at a.bytes.now c.loop-left.p) ≡ true = rw (← w, ← c.is_size.ensures) c.if-is_size-w.true in (
-      omega (arith, c.loop-left.invariant.0),
-      fits,
-      omega (arith, c.loop-left.invariant.2, one),
-      λ r k. c.loop-left.invariant.3 r (rw (← one) (later_more a.n c.loop-left.o a.bytes.now c.loop-left.p (c.loop-left.left - 1) fits test r (rw (← w) k))),
+    let l = c.loop-i in
+    let left : ℕ = a.count - 1 - l.i in
+    let w : c.from-w.result ≡ word_at a.bytes.now (a.at + 2 * l.i) = c.from-w.ensures ∙ c.u16_at.ensures in
+    let fits : a.at + 2 * l.i + 2 ≤ length a.bytes.now = omega (arith, l.invariant.0, c.if-bytes-p-lt2.false) in
+    let on : a.at + 2 * l.i + 2 ≡ a.at + 2 * (l.i + 1) = omega arith in
+    let less : a.count - 1 - l.i ≡ a.count - (l.i + 1) = omega arith in
+    let test : stands a.n l.o left (word_at a.bytes.now (a.at + 2 * l.i)) ≡ true = rw (← w, ← c.is_size.ensures) c.if-is_size-w.true in (
+      omega (arith, fits),
+      λ r k. l.invariant.1 r (rw (← behind (goal.at.loop-i-preserved c).In-loop-i) (later_more a.n l.o a.bytes.now (a.at + 2 * l.i) left fits test r (rw (← w, on, less) k))),
     )
 
 pub returns-else-is_size-w : goal.returns-else-is_size-w
 returns-else-is_size-w c =
     let a = c.args in
-    let w = c.u16_at-w.ensures in
-    let one : c.loop-left.left - 1 + 1 ≡ c.loop-left.left = omega (arith, c.loop-left-test.true) in
-    let fits : c.loop-left.p + 2 ≤ length a.bytes.now = omega (arith, c.loop-left.invariant.1, c.if-bytes-p-lt2.false) in
-    let test : stands a.n c.loop-left.o (c.loop-left.left - 1) (word_at a.bytes.now c.loop-left.p) ≡ false = rw (← w, ← c.is_size.ensures) c.if-is_size-w.false in
-    c.loop-left.invariant.3 (Wrong c.loop-left.p) (rw (← one) (later-wrong a.n c.loop-left.o a.bytes.now c.loop-left.p (c.loop-left.left - 1) fits test))
+    let l = c.loop-i in
+    let left : ℕ = a.count - 1 - l.i in
+    let w : c.from-w.result ≡ word_at a.bytes.now (a.at + 2 * l.i) = c.from-w.ensures ∙ c.u16_at.ensures in
+    let fits : a.at + 2 * l.i + 2 ≤ length a.bytes.now = omega (arith, l.invariant.0, c.if-bytes-p-lt2.false) in
+    let test : stands a.n l.o left (word_at a.bytes.now (a.at + 2 * l.i)) ≡ false = rw (← w, ← c.is_size.ensures) c.if-is_size-w.false in
+    l.invariant.1 (Err (Wrong (a.at + 2 * l.i))) (rw (← behind (goal.at.returns-else-is_size-w c).In-loop-i) (later-wrong a.n l.o a.bytes.now (a.at + 2 * l.i) left fits test))
 
 pub returns : goal.returns
 returns c =
     let a = c.args in
-    let none : c.loop-left.left ≡ 0 = omega (arith, c.loop-left-test.false) in
-    c.loop-left.invariant.3 (At c.loop-left.p) (rw none (later-none a.n c.loop-left.o a.bytes.now c.loop-left.p (omega (arith, c.loop-left.invariant.2, none)) c.loop-left.invariant.1))
+    let l = c.loop-i in
+    let all : l.i ≡ a.count = omega (arith, c.loop-i-test.false, l.auto.i-end) in
+    let none : a.count - l.i ≡ 0 = omega (arith, all) in
+    let end : a.at + 2 * l.i ≡ a.at + 2 * a.count = omega (arith, all) in
+    l.invariant.1 (Ok (a.at + 2 * a.count)) (rw (none, end) (later-none a.n l.o a.bytes.now (a.at + 2 * a.count) (omega arith) (omega (arith, end, l.invariant.0))))

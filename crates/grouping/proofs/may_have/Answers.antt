@@ -1,6 +1,7 @@
 -- `grouping::may_have` meets its contract.
 -- Assumes nothing.
 use native.Mathlib.Omega.{arith}
+use mathlib.Core.Path.{◌∙◌}
 use Rattle.grouping.proofs.SetsLaws.{has_last, has-next}
 use Rattle.grouping.proofs.GoingLaws.{size_fits}
 use Rattle.grouping.proofs.may_have.Goals as goal
@@ -42,4 +43,4 @@ u16_at-requires c = omega (arith, c.requires.3, c.if-left-eq0.false)
 
 pub returns : goal.returns
 returns c =
-    has-next c.args.n c.args.o c.args.bytes.now c.args.at c.args.left c.args.c (omega (arith, c.if-left-eq0.false)) c.u16_at.result c.u16_at.ensures
+    has-next c.args.n c.args.o c.args.bytes.now c.args.at c.args.left c.args.c (omega (arith, c.if-left-eq0.false)) c.from.result (c.from.ensures ∙ c.u16_at.ensures)

@@ -1,4 +1,4 @@
--- `ligatures::serialize_ligature_lookup` meets its contract: columns that do not belong together are refusal 1, other numbers of components 3, and rules that are too many 5; the others are written or refused by `write_rules`.
+-- `ligatures::serialize_ligature_lookup` meets its contract: columns that do not belong together are refusal 1, other numbers of components 3, and rules that are too many 5; the others are written or refused by `write`.
 -- Assumes nothing.
 use mathlib.Core.Path.{◌≡◌, sym, ◌∙◌}
 use Prim.Native.Nat.{◌*◌}
@@ -8,47 +8,46 @@ use lib.ListN.{length}
 use Rattle.refusals.specs.declared.Refusal.TheVariants.{Uneven, OutOfRange}
 use Rattle.layouts.specs.declared.Kind.TheVariants.{Ligature}
 use Rattle.layouts.specs.Lookups.{lookup_of}
+use Rattle.layouts.proofs.FitLaws.{fits-lent}
 use Rattle.layouts.proofs.WrittenLaws.{uneven-given, range_given, written_refused}
-use Rattle.ligatures.specs.Places.{Shape}
-use Rattle.ligatures.proofs.CallLaws.{low-and-high, many_refused}
+use Rattle.ligatures.proofs.CallLaws.{Lent, low-and-high, other_number, many_refused}
 use Rattle.ligatures.proofs.serialize_ligature_lookup.Goals as goal
-use Rattle.ligatures.proofs.serialize_ligature_lookup.Goals.{Then-flat, Then-width}
+use Rattle.ligatures.proofs.serialize_ligature_lookup.Goals.{Else-not-flat, Else-n}
+
+-- columns that do not belong together
+pub returns-then-not-flat : goal.returns-then-not-flat
+returns-then-not-flat c =
+    let l = lookup_of c.args.flags (Ligature c.args.n) c.args.components.now c.args.ligatures.now in
+    written_refused l c.args.area.now Uneven (uneven-given l (length c.args.area.now) (eqb-false _ _ (rw (← c.from-n.ensures) (sym c.flat.ensures ∙ c.if-not-flat.true))))
 
 -- n components for each ligature
-even : (c : Then-flat) → length c.args.components.now ≡ length c.args.ligatures.now * c.args.n
-even c = eqb-true _ _ (sym c.flat.ensures ∙ c.if-flat.true)
+even : (c : Else-not-flat) → length c.args.components.now ≡ length c.args.ligatures.now * c.args.n
+even c = eqb-true _ _ (rw (← c.from-n.ensures) (sym c.flat.ensures ∙ c.if-not-flat.false))
 
-shape : (c : Then-width) → Shape c.args.n c.args.components.now c.args.ligatures.now
-shape c =
-    let r = low-and-high c.args.n c.if-width.true in
-    record { low = r.0; high = r.1; flat = eqb-true _ _ (sym c.flat.ensures ∙ c.if-flat.true) }
+-- another number of components
+pub returns-then-n : goal.returns-then-n
+returns-then-n c =
+    let l = lookup_of c.args.flags (Ligature c.args.n) c.args.components.now c.args.ligatures.now in
+    written_refused l c.args.area.now OutOfRange (range_given l (length c.args.area.now) (even (goal.at.returns-then-n c).Else-not-flat) (other_number c.args.n (rw (← c.from-n.ensures) c.if-n.true)))
+
+lent : (c : Else-n) → length c.args.components.now ≡ length c.args.ligatures.now * c.args.n → Lent c.args.flags c.args.n c.args.components.now c.args.ligatures.now
+lent c flat =
+    let r = low-and-high c.args.n (rw (← c.from-n.ensures) c.if-n.false) in
+    record {
+      shape = record { low = r.0; high = r.1; flat = flat };
+      flags-fit = omega (arith, c.ranges.flags);
+      components-fit = fits-lent c.args.components.now (λ i. omega (arith, c.type_inv.components i));
+      ligatures-fit = fits-lent c.args.ligatures.now (λ i. omega (arith, c.type_inv.ligatures i));
+    }
 
 -- too many rules
 pub returns-then-ligatures-gt-MOST_RULES : goal.returns-then-ligatures-gt-MOST_RULES
 returns-then-ligatures-gt-MOST_RULES c =
-    many_refused
-    (record {
-      shape = shape (goal.at.returns-then-ligatures-gt-MOST_RULES c).Then-width;
-      flags-fit = omega (arith, c.ranges.flags);
-      components-fit = λ i. omega (arith, c.type_inv.components i);
-      ligatures-fit = λ i. omega (arith, c.type_inv.ligatures i);
-    })
-    c.args.area.now (omega (arith, c.if-ligatures-gt-MOST_RULES.true))
+    let at = goal.at.returns-then-ligatures-gt-MOST_RULES c in
+    many_refused (lent at.Else-n (even at.Else-not-flat)) c.args.area.now (omega (arith, c.if-ligatures-gt-MOST_RULES.true))
 
-pub write_rules-requires : goal.write_rules-requires
-write_rules-requires c = (shape (goal.at.write_rules-requires c).Then-width, omega (arith, c.if-ligatures-gt-MOST_RULES.false))
-
-pub returns-else-ligatures-gt-MOST_RULES : goal.returns-else-ligatures-gt-MOST_RULES
-returns-else-ligatures-gt-MOST_RULES c = c.write_rules.ensures
-
--- another number of components
-pub returns-else-width : goal.returns-else-width
-returns-else-width c =
-    let l = lookup_of c.args.flags (Ligature c.args.n) c.args.components.now c.args.ligatures.now in
-    written_refused l c.args.area.now OutOfRange (range_given l (length c.args.area.now) (even (goal.at.returns-else-width c).Then-flat) c.if-width.false)
-
--- columns that do not belong together
-pub returns-else-flat : goal.returns-else-flat
-returns-else-flat c =
-    let l = lookup_of c.args.flags (Ligature c.args.n) c.args.components.now c.args.ligatures.now in
-    written_refused l c.args.area.now Uneven (uneven-given l (length c.args.area.now) (eqb-false _ _ (sym c.flat.ensures ∙ c.if-flat.false)))
+pub invariant_of-rules : goal.invariant_of-rules
+invariant_of-rules c =
+    let at = goal.at.invariant_of-rules c in
+    let l = lent at.Else-n (even at.Else-not-flat) in
+    record { shape = rw c.from-n.ensures l.shape; components_fit = l.components-fit; ligatures_fit = l.ligatures-fit }

@@ -1,15 +1,15 @@
--- `ligatures::survey` meets its contract: what was found, with the sets to come, is the whole extent.
+-- `ligatures::Rules::survey` meets its contract: what was found, with the sets to come, is the whole extent.
 -- Assumes nothing.
 use native.Mathlib.Omega.{arith}
 use Rattle.ligatures.proofs.SurveyLaws.{survey_begins, survey_next, survey_ends}
-use Rattle.ligatures.proofs.survey.Goals as goal
+use Rattle.ligatures.proofs.Rules.survey.Goals as goal
 
 pub loop-i-init : goal.loop-i-init
 loop-i-init c = survey_begins _ _ _
 
 pub set_end-e-requires : goal.set_end-e-requires
 set_end-e-requires c =
-    (c.requires, c.loop-i-test.true)
+    c.loop-i-test.true
 
 pub overflow_add-sets : goal.overflow_add-sets
 overflow_add-sets c = omega (arith, c.loop-i.invariant.few, c.loop-i-test.true)
@@ -21,7 +21,7 @@ pub loop-i-smaller : goal.loop-i-smaller
 loop-i-smaller c = let e = c.set_end-e.ensures in omega (arith, e.after, e.within)
 
 pub loop-i-preserved : goal.loop-i-preserved
-loop-i-preserved c = survey_next c.loop-i.invariant c.set_end-e.ensures _ c.greater-longest.ensures _ (omega arith)
+loop-i-preserved c = survey_next c.loop-i.invariant c.set_end-e.ensures _ c.max-longest.ensures _ (omega arith)
 
 pub returns : goal.returns
 returns c =

@@ -1,4 +1,4 @@
--- `ligatures::put_sets` meets its contract: what is written, with the offsets, leaders and sets to come, is the whole.
+-- `ligatures::Rules::put_sets` meets its contract: what is written, with the offsets, leaders and sets to come, is the whole.
 -- Assumes nothing.
 use mathlib.Core.List.{[], ◌∷◌}
 use Prim.Native.Nat.{◌-◌, ◌*◌}
@@ -9,51 +9,50 @@ use Rattle.ligatures.specs.Places.{part}
 use Rattle.ligatures.proofs.PlaceLaws.{inside}
 use Rattle.ligatures.proofs.ApartLaws.{room-first, room-second, room_third}
 use Rattle.ligatures.proofs.TurnLaws.{sets-begin, set_next, set_turn, sets_end, sets_same}
-use Rattle.ligatures.proofs.put_sets.Goals as goal
+use Rattle.ligatures.proofs.Rules.put_sets.Goals as goal
 
 pub loop-i-init : goal.loop-i-init
-loop-i-init c = sets-begin c.requires.1
+loop-i-init c = sets-begin c.requires
 
 pub set_end-e-requires : goal.set_end-e-requires
 set_end-e-requires c =
-    (c.requires.0, c.loop-i-test.true)
+    c.loop-i-test.true
 
 pub overflow_sub-set : goal.overflow_sub-set
 overflow_sub-set c = omega (arith, c.loop-i.invariant.begins)
 
 pub overflow_cast-set : goal.overflow_cast-set
 overflow_cast-set c =
-    omega (arith, (set_next c.loop-i.invariant c.requires.0 c.set_end-e.ensures).small)
+    omega (arith, (set_next c.loop-i.invariant c.args.self.shape c.set_end-e.ensures).small)
 
 pub put_u16-offset-requires : goal.put_u16-offset-requires
 put_u16-offset-requires c =
-    room-first ((c.loop-i.set - 8) ∷ []) _ (set_next c.loop-i.invariant c.requires.0 c.set_end-e.ensures).coming
+    room-first ((c.loop-i.set - 8) ∷ []) _ (set_next c.loop-i.invariant c.args.self.shape c.set_end-e.ensures).coming
 
 pub overflow_mul-i : goal.overflow_mul-i
 overflow_mul-i c =
-    omega (arith, inside c.loop-i.i c.requires.0 c.loop-i-test.true)
+    omega (arith, inside c.loop-i.i c.args.self.shape c.loop-i-test.true)
 
-pub offset_bounds-components-i : goal.offset_bounds-components-i
-offset_bounds-components-i c =
-    omega (arith, inside c.loop-i.i c.requires.0 c.loop-i-test.true)
+pub offset_bounds-self-i : goal.offset_bounds-self-i
+offset_bounds-self-i c =
+    omega (arith, inside c.loop-i.i c.args.self.shape c.loop-i-test.true)
 
-pub bounds-components-i : goal.bounds-components-i
-bounds-components-i c =
-    omega (arith, inside c.loop-i.i c.requires.0 c.loop-i-test.true, c.requires.0.low)
+pub bounds-self-i : goal.bounds-self-i
+bounds-self-i c =
+    omega (arith, inside c.loop-i.i c.args.self.shape c.loop-i-test.true, c.args.self.shape.low)
 
 pub put_u16-leader-requires : goal.put_u16-leader-requires
 put_u16-leader-requires c =
-    omega (arith, c.put_u16-offset.ensures.same, room-second (get_or c.args.components.now (c.loop-i.i * c.args.n) 0 ∷ []) _ (set_next c.loop-i.invariant c.requires.0 c.set_end-e.ensures).coming)
+    omega (arith, c.put_u16-offset.ensures.same, room-second (get_or c.args.self.components.now (c.loop-i.i * c.args.self.n) 0 ∷ []) _ (set_next c.loop-i.invariant c.args.self.shape c.set_end-e.ensures).coming)
 
 pub put_set-set-requires : goal.put_set-set-requires
 put_set-set-requires c =
     let found = c.set_end-e.ensures in
-    let x = set_next c.loop-i.invariant c.requires.0 found in (
-      c.requires.0,
+    let x = set_next c.loop-i.invariant c.args.self.shape found in (
       omega (arith, found.after),
       found.within,
       x.fine,
-      omega (arith, c.put_u16-offset.ensures.same, c.put_u16-leader.ensures.same, room_third (set_words c.args.n (part c.args.n c.args.components.now c.args.ligatures.now c.loop-i.i c.set_end-e.result)) _ x.coming),
+      omega (arith, c.put_u16-offset.ensures.same, c.put_u16-leader.ensures.same, room_third (set_words c.args.self.n (part c.args.self.n c.args.self.components.now c.args.self.ligatures.now c.loop-i.i c.set_end-e.result)) _ x.coming),
     )
 
 pub loop-i-smaller : goal.loop-i-smaller
@@ -62,11 +61,11 @@ loop-i-smaller c =
 
 pub loop-i-preserved : goal.loop-i-preserved
 loop-i-preserved c =
-    set_turn c.loop-i.invariant c.requires.0 c.set_end-e.ensures c.put_u16-offset.ensures c.put_u16-leader.ensures c.put_set-set.ensures
+    set_turn c.loop-i.invariant c.args.self.shape c.set_end-e.ensures c.put_u16-offset.ensures c.put_u16-leader.ensures c.put_set-set.ensures
 
 pub shape_of-area : goal.shape_of-area
 shape_of-area c =
-    sets_same c.loop-i.invariant c.requires.1
+    sets_same c.loop-i.invariant c.requires
 
 pub returns : goal.returns
 returns c =

@@ -1,4 +1,4 @@
--- `ligatures::write_rules` meets its contract: two tests are refusal 5, the third is 8, and what passes is written.
+-- `ligatures::Rules::write` meets its contract: two tests are refusal 5, the third is 8, and what passes is written.
 -- Assumes nothing.
 use Prim.Native.Nat.{◌+◌, ◌*◌, ◌≤◌}
 use native.Mathlib.Omega.{arith}
@@ -7,49 +7,46 @@ use Rattle.layouts.specs.Lookups.{lookup_of}
 use Rattle.layouts.specs.declared.Kind.TheVariants.{Ligature}
 use Rattle.layouts.proofs.WrittenLaws.{Allowed, written_all}
 use Rattle.ligatures.proofs.CallLaws.{Lent, product_small, extent_small, offset_refused, set_refused, room_refused, not_refused}
-use Rattle.ligatures.proofs.write_rules.Goals as goal
-use Rattle.ligatures.proofs.write_rules.Goals.{After-survey-extent, Else-area-extent}
+use Rattle.ligatures.proofs.Rules.write.Goals as goal
+use Rattle.ligatures.proofs.Rules.write.Goals.{After-survey-extent, Else-area-extent}
 
-lent : (c : After-survey-extent) → Lent c.args.flags c.args.n c.args.components.now c.args.ligatures.now
+lent : (c : After-survey-extent) → Lent c.args.flags c.args.self.n c.args.self.components.now c.args.self.ligatures.now
 lent c =
     record {
-      shape = c.requires.0;
+      shape = c.args.self.shape;
       flags-fit = omega (arith, c.ranges.flags);
-      components-fit = λ i. omega (arith, c.type_inv.components i);
-      ligatures-fit = λ i. omega (arith, c.type_inv.ligatures i);
+      components-fit = c.args.self.components_fit;
+      ligatures-fit = c.args.self.ligatures_fit;
     }
 
 -- no sum overflows: of n components, rules, sets, those of the longest, those before the last
-size_small : (c : After-survey-extent) → 4 + 2 * c.args.n ≤ 10
-size_small c = omega (arith, c.requires.0.high)
+size_small : (c : After-survey-extent) → 4 + 2 * c.args.self.n ≤ 10
+size_small c = omega (arith, c.args.self.shape.high)
 
 sets-small : (c : After-survey-extent) → c.survey-extent.result.sets ≤ 16383
-sets-small c = let f = c.survey-extent.ensures in omega (arith, c.requires.1, (extent_small (lent c) f.sets f.longest f.last).0)
+sets-small c = let f = c.survey-extent.ensures in omega (arith, c.requires, (extent_small (lent c) f.sets f.longest f.last).0)
 
-last-small : (c : After-survey-extent) → c.survey-extent.result.last * (4 + 2 * c.args.n) ≤ 163830
-last-small c = let f = c.survey-extent.ensures in product_small (lent c) c.requires.1 _ (extent_small (lent c) f.sets f.longest f.last).2
+last-small : (c : After-survey-extent) → c.survey-extent.result.last * (4 + 2 * c.args.self.n) ≤ 163830
+last-small c = let f = c.survey-extent.ensures in product_small (lent c) c.requires _ (extent_small (lent c) f.sets f.longest f.last).2
 
-longest-small : (c : After-survey-extent) → c.survey-extent.result.longest * (4 + 2 * c.args.n) ≤ 163830
-longest-small c = let f = c.survey-extent.ensures in product_small (lent c) c.requires.1 _ (extent_small (lent c) f.sets f.longest f.last).1
+longest-small : (c : After-survey-extent) → c.survey-extent.result.longest * (4 + 2 * c.args.self.n) ≤ 163830
+longest-small c = let f = c.survey-extent.ensures in product_small (lent c) c.requires _ (extent_small (lent c) f.sets f.longest f.last).1
 
-rules-small : (c : After-survey-extent) → length c.args.ligatures.now * (4 + 2 * c.args.n) ≤ 163830
-rules-small c = product_small (lent c) c.requires.1 _ (omega arith)
+rules-small : (c : After-survey-extent) → length c.args.self.ligatures.now * (4 + 2 * c.args.self.n) ≤ 163830
+rules-small c = product_small (lent c) c.requires _ (omega arith)
 
 -- what passed all tests
-allowed : (c : Else-area-extent) → Allowed (lookup_of c.args.flags (Ligature c.args.n) c.args.components.now c.args.ligatures.now) (length c.args.area.now)
+allowed : (c : Else-area-extent) → Allowed (lookup_of c.args.flags (Ligature c.args.self.n) c.args.self.components.now c.args.self.ligatures.now) (length c.args.area.now)
 allowed c =
     let f = c.survey-extent.ensures in
     not_refused
     (record {
-      shape = c.requires.0;
+      shape = c.args.self.shape;
       flags-fit = omega (arith, c.ranges.flags);
-      components-fit = λ i. omega (arith, c.type_inv.components i);
-      ligatures-fit = λ i. omega (arith, c.type_inv.ligatures i);
+      components-fit = c.args.self.components_fit;
+      ligatures-fit = c.args.self.ligatures_fit;
     })
-    c.args.area.now f.sets f.longest f.last (omega (arith, c.if-extent-size-gt65535.false)) (omega (arith, c.if-n-extent.false)) (omega (arith, c.if-area-extent.false))
-
-pub survey-extent-requires : goal.survey-extent-requires
-survey-extent-requires c = c.requires.0
+    c.args.area.now f.sets f.longest f.last (omega (arith, c.if-extent-size-gt65535.false)) (omega (arith, c.if-self-extent.false)) (omega (arith, c.if-area-extent.false))
 
 pub overflow_mul-size : goal.overflow_mul-size
 overflow_mul-size c = omega (arith, size_small (goal.at.overflow_mul-size c).After-survey-extent)
@@ -75,20 +72,20 @@ returns-then-extent-size-gt65535 c =
     let f = c.survey-extent.ensures in
     offset_refused (lent (goal.at.returns-then-extent-size-gt65535 c).After-survey-extent) c.args.area.now f.sets f.last (omega (arith, c.if-extent-size-gt65535.true))
 
-pub overflow_mul-n : goal.overflow_mul-n
-overflow_mul-n c = omega (arith, size_small (goal.at.overflow_mul-n c).After-survey-extent)
+pub overflow_mul-self : goal.overflow_mul-self
+overflow_mul-self c = omega (arith, size_small (goal.at.overflow_mul-self c).After-survey-extent)
 
-pub overflow_add-n : goal.overflow_add-n
-overflow_add-n c = omega (arith, size_small (goal.at.overflow_add-n c).After-survey-extent)
+pub overflow_add-self : goal.overflow_add-self
+overflow_add-self c = omega (arith, size_small (goal.at.overflow_add-self c).After-survey-extent)
 
 pub overflow_mul-extent-3 : goal.overflow_mul-extent-3
 overflow_mul-extent-3 c =
     omega (arith, longest-small (goal.at.overflow_mul-extent-3 c).After-survey-extent)
 
 -- the last rule's offset, in the longest set
-pub returns-then-n-extent : goal.returns-then-n-extent
-returns-then-n-extent c =
-    set_refused (lent (goal.at.returns-then-n-extent c).After-survey-extent) c.args.area.now c.survey-extent.ensures.longest (omega (arith, c.if-n-extent.true))
+pub returns-then-self-extent : goal.returns-then-self-extent
+returns-then-self-extent c =
+    set_refused (lent (goal.at.returns-then-self-extent c).After-survey-extent) c.args.area.now c.survey-extent.ensures.longest (omega (arith, c.if-self-extent.true))
 
 pub overflow_mul-extent-4 : goal.overflow_mul-extent-4
 overflow_mul-extent-4 c =
@@ -98,9 +95,9 @@ pub overflow_add-extent-3 : goal.overflow_add-extent-3
 overflow_add-extent-3 c =
     omega (arith, sets-small (goal.at.overflow_add-extent-3 c).After-survey-extent)
 
-pub overflow_mul-ligatures : goal.overflow_mul-ligatures
-overflow_mul-ligatures c =
-    omega (arith, rules-small (goal.at.overflow_mul-ligatures c).After-survey-extent)
+pub overflow_mul-self-2 : goal.overflow_mul-self-2
+overflow_mul-self-2 c =
+    omega (arith, rules-small (goal.at.overflow_mul-self-2 c).After-survey-extent)
 
 pub overflow_add-extent-4 : goal.overflow_add-extent-4
 overflow_add-extent-4 c =
@@ -110,12 +107,12 @@ overflow_add-extent-4 c =
 pub returns-then-area-extent : goal.returns-then-area-extent
 returns-then-area-extent c =
     let f = c.survey-extent.ensures in
-    room_refused (lent (goal.at.returns-then-area-extent c).After-survey-extent) c.args.area.now f.sets f.longest f.last (omega (arith, c.if-extent-size-gt65535.false)) (omega (arith, c.if-n-extent.false)) (omega (arith, c.if-area-extent.true))
+    room_refused (lent (goal.at.returns-then-area-extent c).After-survey-extent) c.args.area.now f.sets f.longest f.last (omega (arith, c.if-extent-size-gt65535.false)) (omega (arith, c.if-self-extent.false)) (omega (arith, c.if-area-extent.true))
 
 pub put_lookup-requires : goal.put_lookup-requires
 put_lookup-requires c =
     let a = allowed (goal.at.put_lookup-requires c).Else-area-extent in
-    (c.requires.0, c.survey-extent.ensures.sets, a.small, a.enough)
+    (c.survey-extent.ensures.sets, a.small, a.enough)
 
 pub shape_of-area : goal.shape_of-area
 shape_of-area c = c.put_lookup.ensures.same

@@ -1,17 +1,17 @@
--- `ligatures::put_lookup` meets its contract: head and coverage, with offsets, leaders and sets around it, are the lookup.
+-- `ligatures::Rules::put_lookup` meets its contract: head and coverage, with offsets, leaders and sets around it, are the lookup.
 -- Assumes nothing.
 use Prim.Native.Nat.{◌+◌, ◌*◌, ◌<◌, ◌≤◌}
 use native.Mathlib.Omega.{arith}
 use lib.ListN.{length}
 use Rattle.ligatures.proofs.LookupLaws.{lookup-long, head-fits, sets-room, lookup-written}
-use Rattle.ligatures.proofs.put_lookup.Goals as goal
-use Rattle.ligatures.proofs.put_lookup.Goals.{Start}
+use Rattle.ligatures.proofs.Rules.put_lookup.Goals as goal
+use Rattle.ligatures.proofs.Rules.put_lookup.Goals.{Start}
 
 small : (s : Start) → 6 + 2 * s.args.sets < 65536
-small s = head-fits s.args.flags s.args.n s.args.components.now s.args.ligatures.now s.args.sets s.requires.1 s.requires.2
+small s = head-fits s.args.flags s.args.self.n s.args.self.components.now s.args.self.ligatures.now s.args.sets s.requires.0 s.requires.1
 
 long : (s : Start) → 18 + 4 * s.args.sets ≤ length s.args.area.now
-long s = omega (arith, s.requires.3, lookup-long s.args.flags s.args.n s.args.components.now s.args.ligatures.now s.args.sets s.requires.1)
+long s = omega (arith, s.requires.2, lookup-long s.args.flags s.args.self.n s.args.self.components.now s.args.self.ligatures.now s.args.sets s.requires.0)
 
 pub overflow_cast-count : goal.overflow_cast-count
 overflow_cast-count c = omega (arith, small (search))
@@ -44,12 +44,12 @@ overflow_add-leaders c =
 
 pub put_sets-requires : goal.put_sets-requires
 put_sets-requires c =
-    (c.requires.0, sets-room c.args.flags c.args.n c.args.components.now c.args.ligatures.now c.args.sets c.requires.1 c.requires.2 c.requires.3 c.put_words-offsets.ensures (omega arith) c.put_words-leaders.ensures)
+    (sets-room c.args.flags c.args.self.n c.args.self.components.now c.args.self.ligatures.now c.args.sets c.requires.0 c.requires.1 c.requires.2 c.put_words-offsets.ensures (omega arith) c.put_words-leaders.ensures)
 
 pub shape_of-area : goal.shape_of-area
 shape_of-area c =
-    (lookup-written c.args.flags c.args.n c.args.components.now c.args.ligatures.now c.args.sets c.requires.1 c.requires.2 c.requires.3 c.put_words-offsets.ensures (omega arith) c.put_words-leaders.ensures c.put_sets.ensures.end c.put_sets.ensures.made).same
+    (lookup-written c.args.flags c.args.self.n c.args.self.components.now c.args.self.ligatures.now c.args.sets c.requires.0 c.requires.1 c.requires.2 c.put_words-offsets.ensures (omega arith) c.put_words-leaders.ensures c.put_sets.ensures.end c.put_sets.ensures.made).same
 
 pub returns : goal.returns
 returns c =
-    lookup-written c.args.flags c.args.n c.args.components.now c.args.ligatures.now c.args.sets c.requires.1 c.requires.2 c.requires.3 c.put_words-offsets.ensures (omega arith) c.put_words-leaders.ensures c.put_sets.ensures.end c.put_sets.ensures.made
+    lookup-written c.args.flags c.args.self.n c.args.self.components.now c.args.self.ligatures.now c.args.sets c.requires.0 c.requires.1 c.requires.2 c.put_words-offsets.ensures (omega arith) c.put_words-leaders.ensures c.put_sets.ensures.end c.put_sets.ensures.made

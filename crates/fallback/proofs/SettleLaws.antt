@@ -19,14 +19,14 @@ use Rattle.drafts.specs.declared.Draft.{Draft}
 use Rattle.drafts.specs.Entries.{all_bytes}
 use Rattle.windows.specs.Windows.{direct}
 use Rattle.fallback.specs.Plan.{Inputs, unicode, plan}
-use Rattle.fallback.specs.Planned.{Answer, lent_rows, room_row, plan_refusal, nothing, made, Settled, Settles, Planning}
+use Rattle.fallback.specs.Planned.{PlanAnswer, lent_rows, room_row, plan_refusal, nothing, made, Settled, Settles, Planning}
 
 -- ---- the last step
 module _ (d : Draft) (scratch area : List ℕ) where
   pub too_short : length area < d.end → Settles d scratch area (Err NoRoom) area
   too_short h entries p = rw (lt-ltb (length area) (length (all_bytes entries)) (omega (arith, p.ends)))
 
-  abbrev answer : Answer
+  abbrev answer : PlanAnswer
   answer = Ok (record { count = d.count; masks = d.masks; lengths = d.lengths })
 
   pub put_in : d.end ≤ length area → (part : List ℕ) → part ≡ take d.end scratch → Settles d scratch area answer (part ++ drop d.end area)
@@ -53,7 +53,7 @@ module _ (i : Inputs) where
         let number : number_of k ≡ plan_refusal i (length area) = e ∙ sym (first-before (lent_rows i) (room_row (plan i) (length area)) (λ z. some (e ∙ z))) in
         left_refused (plan_refusal i (length area)) (nothing area) (made (plan i) area) (number_of k) number some
 
-    pub settled-planning : first (lent_rows i) ≡ 0 → (r : Answer) (left : List ℕ) → Settled (plan i) area r left → Planning i area r left
+    pub settled-planning : first (lent_rows i) ≡ 0 → (r : PlanAnswer) (left : List ℕ) → Settled (plan i) area r left → Planning i area r left
     unfolding plan_refusal
     settled-planning z r left s =
         s ∙ ap (λ (n : ℕ). leaves n (nothing area) (made (plan i) area)) (sym (first-behind 0 (lent_rows i) (room_row (plan i) (length area)) refl z))

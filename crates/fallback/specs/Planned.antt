@@ -1,4 +1,4 @@
--- The call that makes a plan: `flat_by`, `even`, `limited`, `short`, `lent_rows`, `room_row`, `plan_rows`, `plan_refusal` when it is refused, and with which number; `PlanOutcome`, `plan_outcome`, `nothing`, `made` what is there afterwards; `Answer`, `plan_said`, `outcome_said` an answer, and the plan that it says; `Settled`, `Settles` the last step of it; `plan_after`, `Planning` what the call answers and leaves, of every input.
+-- The call that makes a plan: `flat_by`, `even`, `limited`, `short`, `lent_rows`, `room_row`, `plan_rows`, `plan_refusal` when it is refused, and with which number; `PlanOutcome`, `plan_outcome`, `nothing`, `made` what is there afterwards; `PlanAnswer`, `plan_said`, `outcome_said` an answer, and the plan that it says; `Settled`, `Settles` the last step of it; `plan_after`, `Planning` what the call answers and leaves, of every input.
 -- Assumes nothing.
 use Rattle.std.specs.Prelude.{◌≡◌, Bool, not, ◌&&◌, List, [], ◌∷◌, ◌++◌, ℕ, ◌*◌, eqb, leb, ltb, length, drop, Result, Ok, Err}
 use Rattle.laws.specs.Rows.{Row, Given, first}
@@ -63,8 +63,8 @@ abbrev pub plan_outcome : ℕ → List ℕ → List ℕ → List ℕ → PlanOut
 plan_outcome count masks lengths area = record { count = count; masks = masks; lengths = lengths; area = area }
 
 -- what the call answers: a plan, or why there is none
-abbrev pub Answer : Type 0
-Answer = Result FallbackPlan Refusal
+abbrev pub PlanAnswer : Type 0
+PlanAnswer = Result FallbackPlan Refusal
 
 -- "A refusal gives its number and zeros elsewhere"
 abbrev pub nothing : List ℕ → PlanOutcome
@@ -75,27 +75,27 @@ abbrev pub made : List Entry → List ℕ → PlanOutcome
 made entries area = plan_outcome (length entries) (masks_of entries) (lengths_of entries) (all_bytes entries ++ drop (length (all_bytes entries)) area)
 
 -- the plan that an answer says; a refusal says zeros
-abbrev pub plan_said : Answer → FallbackPlan
+abbrev pub plan_said : PlanAnswer → FallbackPlan
 plan_said (Ok p) = p
 plan_said (Err k) = record { count = 0; masks = seven; lengths = seven }
 
 -- what there is after the call
-abbrev pub outcome_said : Answer → List ℕ → PlanOutcome
+abbrev pub outcome_said : PlanAnswer → List ℕ → PlanOutcome
 outcome_said r left = plan_outcome (plan_said r).count (plan_said r).masks (plan_said r).lengths left
 
 abbrev pub plan_after : Inputs → List ℕ → Left PlanOutcome
 plan_after i area = leaves (plan_refusal i (length area)) (nothing area) (made (plan i) area)
 
 -- entries put into the area, if they go in
-abbrev pub Settled : List Entry → List ℕ → Answer → List ℕ → Type 0
+abbrev pub Settled : List Entry → List ℕ → PlanAnswer → List ℕ → Type 0
 Settled entries area r left =
     After (said r) (outcome_said r left)
     ≡ leaves (first (room_row entries (length area))) (nothing area) (made entries area)
 
 -- those of a draft
-abbrev pub Settles : Draft → List ℕ → List ℕ → Answer → List ℕ → Type 0
+abbrev pub Settles : Draft → List ℕ → List ℕ → PlanAnswer → List ℕ → Type 0
 Settles draft scratch area r left = (entries : List Entry) → Drafted entries draft scratch → Settled entries area r left
 
 -- the statement of the call: lent these inputs and an area, it may answer r and leave the area `left`
-abbrev pub Planning : Inputs → List ℕ → Answer → List ℕ → Type 0
+abbrev pub Planning : Inputs → List ℕ → PlanAnswer → List ℕ → Type 0
 Planning i area r left = After (said r) (outcome_said r left) ≡ plan_after i area

@@ -51,6 +51,7 @@ fn serialize(
 }
 
 // The entries so far: their masks, how many bytes each lookup has, and where the bytes of the last end.
+// Two columns and how many of their places are taken, as `tt_fallback_plan` gives them to C: without a heap there is no Vec.
 #[derive(Clone, Copy)]
 pub struct Draft {
     pub count: usize,

@@ -21,7 +21,7 @@ use synthesis::Rows;
 // Bytes of a plan, at most: four lookups of 4,114, one of 16,402 and two of 14,354.
 const LONGEST_PLAN: usize = 61566;
 
-// A plan: its entries, each a mask and how many bytes its lookup has.
+// A plan: its entries, each a mask and how many bytes its lookup has, in two columns as `tt_fallback_plan` gives them to C.
 #[derive(Clone, Copy)]
 pub struct FallbackPlan {
     pub count: usize,

@@ -44,7 +44,8 @@ impl Font<'_> {
         let tail = n - span;
         let mut base = later(self.codes[tail], sought, 0, tail);
         let mut half = span / 2;
-        // Halves a window that is a power of two, so that a step is one comparison and one choice.
+        // Halves a window that is a power of two, so that a step is one comparison and one choice. By the library's
+        // `binary_search` a plan of the Rust's rows took 1.01 to 1.08 of the Rust's instructions, where 1.00 is the bar.
         while 0 < half {
             let middle = base + half;
             base = later(self.codes[middle], sought, base, middle);

@@ -15,6 +15,7 @@ use Rattle.laws.proofs.PartLaws.{past_same, past-front}
 use Rattle.laws.specs.Rows.{first}
 use Rattle.laws.proofs.RowLaws.{first-none}
 use Rattle.laws.proofs.TestLaws.{neither}
+use Rattle.refusals.specs.Numbers.{said as number_said}
 use Rattle.refusals.specs.Columns.{rising}
 use Rattle.refusals.proofs.LeftLaws.{left-number, left_stays, left-accepted, left-done}
 use Rattle.refusals.proofs.PromiseLaws.{kept}
@@ -22,19 +23,17 @@ use Rattle.words.specs.Words.{bytes}
 use Rattle.words.proofs.WordLaws.{length-bytes}
 use Rattle.layouts.specs.declared.Kind.{Kind}
 use Rattle.layouts.specs.declared.Kind.TheVariants.{Single, Ligature}
-use Rattle.layouts.specs.declared.Written.{Written}
-use Rattle.layouts.specs.declared.Written.TheVariants.{Bytes}
+use Rattle.std.specs.Prelude.{Ok}
 use Rattle.layouts.specs.Tables.{sets, offsets, joined, ligature_of, ligature}
 use Rattle.layouts.specs.Lookups.{Lookup, lookup_of, width, rules, words_of, firsts}
 use Rattle.layouts.specs.Written as write
-use Rattle.layouts.specs.Written.{write_outcome, write_refusal, write_after, Writing}
+use Rattle.layouts.specs.Written.{Written, write_outcome, write_refusal, write_after, Writing}
 use Rattle.layouts.proofs.WrittenLaws.{Allowed, none-given}
 use Rattle.scanning.specs.Scans.{Scan, fine, wrong, short}
 use Rattle.scanning.specs.Grammar.{reading}
 use Rattle.scanning.specs.Exact.{kind_read, as_read, Readable}
 use Rattle.scanning.proofs.ExactLaws.{bytes-accepted, bytes-written}
-use Rattle.reading.specs.declared.Answer.{Answer}
-use Rattle.reading.specs.Read.{Columns, ReadOutcome, nothing, found, lacking, made, read_rows, read_refusal, read_number, outcome_said, Reading}
+use Rattle.reading.specs.Read.{Columns, ReadOutcome, nothing, found, lacking, made, read_rows, read_refusal, Answer, outcome_said, Reading}
 use Rattle.fidelity.specs.Reading.{Promised, AreBytes, count_said, glyphs_said, PastTheAnswer, WriterGives, Accepts, lookup_said, ReadsBack, WritesBack, NeverFall, EmptyAlike, EmptyReadsTwo}
 use Rattle.fidelity.proofs.WritingHolds as writing
 use Rattle.fidelity.proofs.SaidLaws.{list-said, same_answer, Said, said-found}
@@ -63,16 +62,16 @@ record Found (b : List ℕ) (c : Columns) (l : Lookup) (o : ReadOutcome) : Type 
   there : o ≡ found l c
 
 module _ (b : List ℕ) (c : Columns) (r : Answer) (left : Columns) (x : Reading b c r left) where
-  pub number-given : read_number r ≡ read_refusal (reading b) c
-  number-given = left-number (read_refusal (reading b) c) (nothing c) (made (reading b) c) (read_number r) (outcome_said r left) x
+  pub number-given : number_said r ≡ read_refusal (reading b) c
+  number-given = left-number (read_refusal (reading b) c) (nothing c) (made (reading b) c) (number_said r) (outcome_said r left) x
 
-  pub unaltered : (read_number r ≡ 0 → ⊥) → outcome_said r left ≡ nothing c
-  unaltered = left_stays (read_refusal (reading b) c) (nothing c) (made (reading b) c) (read_number r) (outcome_said r left) x
+  pub unaltered : (number_said r ≡ 0 → ⊥) → outcome_said r left ≡ nothing c
+  unaltered = left_stays (read_refusal (reading b) c) (nothing c) (made (reading b) c) (number_said r) (outcome_said r left) x
 
-  pub done : read_number r ≡ 0 → outcome_said r left ≡ made (reading b) c
-  done z = left-accepted (read_refusal (reading b) c) (nothing c) (made (reading b) c) (read_number r) (outcome_said r left) x z
+  pub done : number_said r ≡ 0 → outcome_said r left ≡ made (reading b) c
+  done z = left-accepted (read_refusal (reading b) c) (nothing c) (made (reading b) c) (number_said r) (outcome_said r left) x z
 
-  was_found : read_number r ≡ 0 → (l : Lookup) × Found b c l (outcome_said r left)
+  was_found : number_said r ≡ 0 → (l : Lookup) × Found b c l (outcome_said r left)
   unfolding read_refusal
   was_found z = go (reading b) refl (sym number-given ∙ z) (done z)
     where
@@ -95,7 +94,7 @@ module _ (l : Lookup) where
   front : (area : List ℕ) → take (2 * length (words_of l)) (bytes (words_of l) ++ drop (2 * length (words_of l)) area) ≡ bytes (words_of l)
   front area = take_at (bytes (words_of l)) (drop (2 * length (words_of l)) area) (2 * length (words_of l)) (length-bytes (words_of l))
 
-  module _ (area : List ℕ) (w : Written) (out : List ℕ) (x : Writing l area w out) (z : write.write_number w ≡ 0) where
+  module _ (area : List ℕ) (w : Written) (out : List ℕ) (x : Writing l area w out) (z : number_said w ≡ 0) where
     bytes-given : take (write.length_said w) out ≡ bytes (words_of l)
     bytes-given = rw (writing.length-left l area w out x z, writing.area-left l area w out x z) (front area)
 
@@ -103,7 +102,7 @@ module _ (l : Lookup) where
     given-accepted up = ap reading bytes-given ∙ bytes-accepted l (readable (length area) (writing.accepted l area w out x z) up)
 
   -- lent an area, it may answer so
-  may_give : (area : List ℕ) → Allowed l (length area) → Writing l area (Bytes (2 * length (words_of l))) (bytes (words_of l) ++ drop (2 * length (words_of l)) area)
+  may_give : (area : List ℕ) → Allowed l (length area) → Writing l area (Ok (2 * length (words_of l))) (bytes (words_of l) ++ drop (2 * length (words_of l)) area)
   may_give area a = left-done (write_refusal l (length area)) (write_outcome 0 area) _ 0 _ (sym (none-given l (length area) a)) refl refl
 
 -- ---- which bytes are accepted
@@ -113,7 +112,7 @@ gives-written b l e q =
     let long : 2 * length (words_of l) ≤ length b = omega (arith, ap length e, length-bytes (words_of l)) in
     record {
       area = b;
-      answer = Bytes (2 * length (words_of l));
+      answer = Ok (2 * length (words_of l));
       left = bytes (words_of l) ++ drop (2 * length (words_of l)) b;
       asked = may_give l b (allowed l (length b) q long);
       written = refl;
@@ -129,15 +128,15 @@ pub accepts : Accepts
 unfolding read_refusal
 accepts b h c r left x = (on, back)
   where
-    on : (read_number r ≡ 7 → ⊥) → (l : Lookup) × WriterGives b l
+    on : (number_said r ≡ 7 → ⊥) → (l : Lookup) × WriterGives b l
     on d = go (reading b) refl (number-given b c r left x)
       where
-        go : (s : Scan) → reading b ≡ s → read_number r ≡ first (read_rows s c) → (l : Lookup) × WriterGives b l
+        go : (s : Scan) → reading b ≡ s → number_said r ≡ first (read_rows s c) → (l : Lookup) × WriterGives b l
         go (wrong n) e f = absurd (d f)
         go short e f = absurd (d f)
         go (fine l) e f = let m = bytes-written b h l e in (l, gives-written b l m.0 m.1.readable)
 
-    back : ((l : Lookup) × WriterGives b l) → read_number r ≡ 7 → ⊥
+    back : ((l : Lookup) × WriterGives b l) → number_said r ≡ 7 → ⊥
     back (l, g) e = go (lacking (fine (as_read l)) c) (sym e ∙ number-given b c r left x ∙ ap (λ (s : Scan). first (read_rows s c)) (given-read b l g))
       where
         go : (t : Bool) → ◌≡◌ {A = ℕ} 7 (cond t 8 0) → ⊥
@@ -156,7 +155,7 @@ unfolding read_refusal
 reads-back l area w out x z up c glyphs substitutes r left y =
     let b : List ℕ = take (write.length_said w) out in
     let s : reading b ≡ fine (as_read l) = given-accepted l area w out x z up in
-    let none : read_number r ≡ 0 =
+    let none : number_said r ≡ 0 =
     number-given b c r left y
     ∙ ap (λ (s : Scan). first (read_rows s c)) s
     ∙ rw (le-ltb (length c.glyphs) (length l.glyphs) glyphs, le-ltb (length c.substitutes) (length l.substitutes) substitutes)
@@ -165,7 +164,7 @@ reads-back l area w out x z up c glyphs substitutes r left y =
     (none, (said-found (as_read l) even c r left none (done b c r left y none ∙ ap (λ (s : Scan). made s c) s)).lookup)
 
 -- the lookup that an accepted answer says is the one whose bytes were read
-module _ (b : List ℕ) (h : AreBytes b) (c : Columns) (r : Answer) (left : Columns) (x : Reading b c r left) (z : read_number r ≡ 0) where
+module _ (b : List ℕ) (h : AreBytes b) (c : Columns) (r : Answer) (left : Columns) (x : Reading b c r left) (z : number_said r ≡ 0) where
   abbrev said : Lookup
   said = (was_found b c r left x z).0
 
@@ -200,10 +199,10 @@ module _ (b : List ℕ) (h : AreBytes b) (c : Columns) (r : Answer) (left : Colu
     size : length b ≡ 2 * length (words_of said)
     size = ap length is-written.0 ∙ length-bytes (words_of said)
 
-    unrefused : write.write_number w ≡ 0
+    unrefused : number_said w ≡ 0
     unrefused = writing.number-given said area w out asked ∙ none-given said (length area) (allowed said (length area) is-written.1 (omega (arith, size)))
 
-    back_again : (write.write_number w ≡ 0) × (write.length_said w ≡ length b) × (take (length b) out ≡ b)
+    back_again : (number_said w ≡ 0) × (write.length_said w ≡ length b) × (take (length b) out ≡ b)
     back_again =
         let n : write.length_said w ≡ length b = writing.length-left said area w out asked unrefused ∙ sym size in
         (unrefused, n, ap (λ (k : ℕ). take k out) (sym n) ∙ bytes-given said area w out asked unrefused ∙ sym is-written.0)
@@ -215,9 +214,9 @@ pub never_fall : NeverFall
 never_fall = never_falls
 
 pub past_the_answer : PastTheAnswer
-past_the_answer b h c r left x = go (read_number r) refl
+past_the_answer b h c r left x = go (number_said r) refl
   where
-    go : (n : ℕ) → read_number r ≡ n → Past (glyphs_said r) c.glyphs left.glyphs × Past (count_said r) c.substitutes left.substitutes
+    go : (n : ℕ) → number_said r ≡ n → Past (glyphs_said r) c.glyphs left.glyphs × Past (count_said r) c.substitutes left.substitutes
     go zero e = (past-glyphs b h c r left x e, past-substitutes b h c r left x e)
     go (suc n) e = rw (promised.refused_stays b c r left x (λ z. omega (arith, e, z))).0 (past_same (glyphs_said r) c.glyphs, past_same (count_said r) c.substitutes)
 

@@ -5,20 +5,19 @@ use Prim.Native.Nat.{ℕ, ◌*◌}
 use native.Mathlib.Omega.{arith}
 use lib.ListN.{length, take, drop}
 use lib.Seq.{take_at}
-use Rattle.refusals.specs.declared.Verdict.TheVariants.{Refused}
+use Rattle.std.specs.Prelude.{Ok, Err}
+use Rattle.refusals.specs.Numbers.{said as number_said}
 use Rattle.refusals.proofs.VerdictLaws.{same-said, refused_number}
 use Rattle.layouts.specs.declared.Kind.{Kind}
 use Rattle.layouts.specs.declared.Kind.TheVariants.{Single, Ligature}
 use Rattle.layouts.specs.Lookups.{Lookup, width}
-use Rattle.reading.specs.declared.Answer.{Answer}
 use Rattle.reading.specs.declared.Lookup as said
-use Rattle.reading.specs.declared.Answer.TheVariants.{Read}
-use Rattle.reading.specs.Read.{Columns, ReadOutcome, type_of, components_of_lem, found, read_number, outcome_said}
+use Rattle.reading.specs.Read.{Columns, ReadOutcome, type_of, components_of_lem, found, Answer, outcome_said}
 use Rattle.fidelity.specs.Reading.{count_said, glyphs_said, lookup_said}
 
 pub list-said : (r : Answer) (c : Columns) → (outcome_said r c).list ≡ c
-list-said (Read m) c = refl
-list-said (Answer.Refused k) c = refl
+list-said (Ok m) c = refl
+list-said (Err k) c = refl
 
 -- a kind is known by its type and its component number
 pub same_kind : (j k : Kind) → type_of j ≡ type_of k → components_of_lem j ≡ components_of_lem k → j ≡ k
@@ -31,18 +30,18 @@ same-lookup : (m k : said.Lookup) → m.flags ≡ k.flags → m.len ≡ k.len �
 same-lookup m k e f g =
     ap₂ (λ (a b : ℕ). record { flags = a; len = b; kind = m.kind }) e f ∙ ap (λ (c : Kind). record { flags = k.flags; len = k.len; kind = c }) g
 
-pub same_answer : (r u : Answer) (c d : Columns) → read_number r ≡ read_number u → outcome_said r c ≡ outcome_said u d → r ≡ u
-same_answer (Read m) (Read k) c d e f =
+pub same_answer : (r u : Answer) (c d : Columns) → number_said r ≡ number_said u → outcome_said r c ≡ outcome_said u d → r ≡ u
+same_answer (Ok m) (Ok k) c d e f =
     let kinds : m.kind ≡ k.kind = same_kind m.kind k.kind (ap (λ (o : ReadOutcome). o.type) f) (ap (λ (o : ReadOutcome). o.components) f) in
     let flag : m.flags ≡ k.flags = ap (λ (o : ReadOutcome). o.flags) f in
     let long : m.len ≡ k.len = ap (λ (o : ReadOutcome). o.count) f in
-    ap Read (same-lookup m k flag long kinds)
-same_answer (Read m) (Answer.Refused k) c d e f = absurd (refused_number k (sym e))
-same_answer (Answer.Refused k) (Read m) c d e f = absurd (refused_number k e)
-same_answer (Answer.Refused k) (Answer.Refused j) c d e f =
-    let v = same-said (Refused k) (Refused j) e in
+    ap Ok (same-lookup m k flag long kinds)
+same_answer (Ok m) (Err k) c d e f = absurd (refused_number k (sym e))
+same_answer (Err k) (Ok m) c d e f = absurd (refused_number k e)
+same_answer (Err k) (Err j) c d e f =
+    let v = same-said (Err k) (Err j) e in
     let same : k ≡ j = cc in
-    ap Answer.Refused same
+    ap Err same
 
 -- an answer that says what was found of l says l
 module _ (l : Lookup) (even : length l.glyphs ≡ length l.substitutes * width l.kind) (c : Columns) where
@@ -51,9 +50,9 @@ module _ (l : Lookup) (even : length l.glyphs ≡ length l.substitutes * width l
     pub count : count_said r ≡ length l.substitutes
     pub glyphs : glyphs_said r ≡ length l.glyphs
 
-  pub said-found : (r : Answer) (left : Columns) → read_number r ≡ 0 → outcome_said r left ≡ found l c → Said r left
-  said-found (Answer.Refused k) left z f = absurd (refused_number k z)
-  said-found (Read m) left z f =
+  pub said-found : (r : Answer) (left : Columns) → number_said r ≡ 0 → outcome_said r left ≡ found l c → Said r left
+  said-found (Err k) left z f = absurd (refused_number k z)
+  said-found (Ok m) left z f =
       let kinds : m.kind ≡ l.kind = same_kind m.kind l.kind (ap (λ (o : ReadOutcome). o.type) f) (ap (λ (o : ReadOutcome). o.components) f) in
       let flag : m.flags ≡ l.flags = ap (λ (o : ReadOutcome). o.flags) f in
       let long : m.len ≡ length l.substitutes = ap (λ (o : ReadOutcome). o.count) f in

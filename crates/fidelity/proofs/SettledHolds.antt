@@ -10,14 +10,14 @@ use lib.Dec.{ltb}
 use lib.ListN.{length}
 use Rattle.laws.specs.Rows.{first}
 use Rattle.laws.proofs.TestLaws.{neither}
+use Rattle.refusals.specs.Numbers.{said}
 use Rattle.refusals.specs.Left.{After, leaves}
 use Rattle.layouts.specs.Lookups.{Lookup}
 use Rattle.scanning.specs.Scans.{Scan, fine, wrong, short}
 use Rattle.scanning.specs.Grammar.{reading}
 use Rattle.scanning.specs.Exact.{as_read}
 use Rattle.scanning.proofs.ExactLaws.{bytes-written}
-use Rattle.reading.specs.declared.Answer.{Answer}
-use Rattle.reading.specs.Read.{Columns, nothing, found, accepted, lacking, made, read_rows, read_refusal, read_number, outcome_said, Reading}
+use Rattle.reading.specs.Read.{Columns, nothing, found, accepted, lacking, made, read_rows, read_refusal, Answer, outcome_said, Reading}
 use Rattle.fidelity.specs.Reading.{AreBytes}
 use Rattle.fidelity.specs.Settled as settled
 use Rattle.fidelity.specs.Settled.{Room, GivenFor, Settled, ByTheWriters, NoOther}
@@ -51,14 +51,14 @@ module _ (b : List ℕ) (h : AreBytes b) (c : Columns) (r : Answer) (left : Colu
   unfolding read_refusal
   on x = go (reading b) refl (number-given b c r left x) (done b c r left x)
     where
-      unread : read_number r ≡ 7 → ((l : Lookup) → reading b ≡ fine l → ⊥) → Settled b c r left
+      unread : said r ≡ 7 → ((l : Lookup) → reading b ≡ fine l → ⊥) → Settled b c r left
       unread e never = settled.no_lookup (λ l g. never (as_read l) (given-read b l g)) e (unaltered b c r left x (λ z. omega (arith, e, z)))
 
-      room : (l : Lookup) → reading b ≡ fine l → (t : Bool) → lacking (fine l) c ≡ t → read_number r ≡ cond t 8 0 → (read_number r ≡ 0 → outcome_said r left ≡ found l c) → Settled b c r left
+      room : (l : Lookup) → reading b ≡ fine l → (t : Bool) → lacking (fine l) c ≡ t → said r ≡ cond t 8 0 → (said r ≡ 0 → outcome_said r left ≡ found l c) → Settled b c r left
       room l e true k n o = settled.no_room l (given l e) (λ q. false≢true (sym (room-not-lacking l c q) ∙ k)) n (unaltered b c r left x (λ z. omega (arith, n, z)))
       room l e false k n o = settled.read l (given l e) (room-there l c k) n (o n)
 
-      go : (s : Scan) → reading b ≡ s → read_number r ≡ first (read_rows s c) → (read_number r ≡ 0 → outcome_said r left ≡ made s c) → Settled b c r left
+      go : (s : Scan) → reading b ≡ s → said r ≡ first (read_rows s c) → (said r ≡ 0 → outcome_said r left ≡ made s c) → Settled b c r left
       go (fine l) e n o = room l e (lacking (fine l) c) refl n o
       go (wrong k) e n o = unread n (λ l f. false≢true (ap accepted (sym e ∙ f)))
       go short e n o = unread n (λ l f. false≢true (ap accepted (sym e ∙ f)))
@@ -69,7 +69,7 @@ module _ (b : List ℕ) (h : AreBytes b) (c : Columns) (r : Answer) (left : Colu
   back (settled.no_room l g q n o) = rw (read-given l g, no_room-lacking l c q, n, o) refl
   back (settled.no_lookup never n o) = go (reading b) refl
     where
-      go : (s : Scan) → reading b ≡ s → After (read_number r) (outcome_said r left) ≡ leaves (first (read_rows s c)) (nothing c) (made s c)
+      go : (s : Scan) → reading b ≡ s → After (said r) (outcome_said r left) ≡ leaves (first (read_rows s c)) (nothing c) (made s c)
       go (fine l) e = absurd (never l (given l e).gives)
       go (wrong k) e = rw (n, o) refl
       go short e = rw (n, o) refl

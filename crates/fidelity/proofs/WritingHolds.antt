@@ -11,16 +11,16 @@ use lib.Dec.{ltb, leb}
 use lib.ListN.{length, drop, length-map}
 use Rattle.laws.specs.Lists.{Past}
 use Rattle.laws.proofs.PartLaws.{past_same, past-front}
+use Rattle.refusals.specs.Numbers.{said}
 use Rattle.refusals.proofs.LeftLaws.{left-number, left-accepted}
 use Rattle.refusals.proofs.PromiseLaws.{kept}
 use Rattle.words.specs.Words.{bytes, words_at}
 use Rattle.words.proofs.WordLaws.{length-bytes}
 use Rattle.layouts.specs.declared.Kind.{Kind}
 use Rattle.layouts.specs.declared.Kind.TheVariants.{Single, Ligature}
-use Rattle.layouts.specs.declared.Written.{Written}
 use Rattle.layouts.specs.Tables.{Rule, first, leader, sets}
 use Rattle.layouts.specs.Lookups.{Lookup, lookup_of, width, known, rules, laid_out, words_of, firsts_in, fits}
-use Rattle.layouts.specs.Written.{WriteOutcome, write_outcome, write_refusal, write_number, length_said, Writing}
+use Rattle.layouts.specs.Written.{Written, WriteOutcome, write_outcome, write_refusal, length_said, Writing}
 use Rattle.layouts.proofs.FitLaws.{fits-lent}
 use Rattle.layouts.proofs.SetLaws.{wide-rules}
 use Rattle.layouts.proofs.SizeLaws.{length-rules, size-single, size-ligature}
@@ -40,15 +40,15 @@ module _ (l : Lookup) (area : List ℕ) where
   new = write_outcome (2 * length (words_of l)) (bytes (words_of l) ++ drop (2 * length (words_of l)) area)
 
   module _ (r : Written) (left : List ℕ) (x : Writing l area r left) where
-    pub number-given : write_number r ≡ write_refusal l (length area)
-    number-given = left-number (write_refusal l (length area)) (write_outcome 0 area) new (write_number r) (write_outcome (length_said r) left) x
+    pub number-given : said r ≡ write_refusal l (length area)
+    number-given = left-number (write_refusal l (length area)) (write_outcome 0 area) new (said r) (write_outcome (length_said r) left) x
 
-    module _ (z : write_number r ≡ 0) where
+    module _ (z : said r ≡ 0) where
       pub accepted : Allowed l (length area)
       accepted = allowed l (length area) (sym number-given ∙ z)
 
       done : write_outcome (length_said r) left ≡ new
-      done = left-accepted (write_refusal l (length area)) (write_outcome 0 area) new (write_number r) (write_outcome (length_said r) left) x z
+      done = left-accepted (write_refusal l (length area)) (write_outcome 0 area) new (said r) (write_outcome (length_said r) left) x z
 
       pub length-left : length_said r ≡ 2 * length (words_of l)
       length-left = ap (λ (o : WriteOutcome). o.count) done
@@ -74,9 +74,9 @@ promised =
     })
 
 pub past_the_answer : PastTheAnswer
-past_the_answer l area r left x = go (write_number r) refl
+past_the_answer l area r left x = go (said r) refl
   where
-    go : (n : ℕ) → write_number r ≡ n → Past (length_said r) area left
+    go : (n : ℕ) → said r ≡ n → Past (length_said r) area left
     go zero e = past l area r left x e
     go (suc n) e = rw (promised.refused_stays l area r left x (λ z. omega (arith, e, z))).0 (past_same (length_said r) area)
 
@@ -113,14 +113,14 @@ offset-from l most even named fit area r left x = (on, back)
         go false s =
             omega (arith, e, none-given l room (record { even = even; in_range = named; small = w; enough = ltb-false room (2 * length (words_of l)) s }))
 
-    on : write_number r ≡ 5 → most < length l.substitutes
+    on : said r ≡ 5 → most < length l.substitutes
     on e = go (leb (length l.substitutes) most) refl
       where
         go : (t : Bool) → leb (length l.substitutes) most ≡ t → most < length l.substitutes
         go true s = absurd (written (fit ∙ s) (sym (number-given l area r left x) ∙ e))
         go false s = leb-false (length l.substitutes) most s
 
-    back : most < length l.substitutes → write_number r ≡ 5
+    back : most < length l.substitutes → said r ≡ 5
     back h = number-given l area r left x ∙ offset-given l room even named (fit ∙ lt-leb (length l.substitutes) most h)
 
 pub single-limit : SingleLimit

@@ -5,11 +5,9 @@ use mathlib.Core.List.{List}
 use Prim.Native.Nat.{ℕ}
 use Rattle.laws.specs.Lent.{Borrowed, BorrowedMut}
 use Rattle.layouts.specs.declared.Kind.{Kind}
-use Rattle.layouts.specs.declared.Written.{Written}
 use Rattle.layouts.specs.Lookups.{lookup_of, lookup_lent}
-use Rattle.layouts.specs.Written.{Writing}
-use Rattle.reading.specs.declared.Answer.{Answer}
-use Rattle.reading.specs.Read.{list_of, list_lent, Reading}
+use Rattle.layouts.specs.Written.{Written, Writing}
+use Rattle.reading.specs.Read.{list_of, list_lent, Answer, Reading}
 
 pub writing :
     (flags : ℕ) (kind : Kind) (glyphs substitutes : Borrowed ℕ) (area left : List ℕ) (r : Written)

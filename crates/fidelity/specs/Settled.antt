@@ -1,10 +1,10 @@
 -- What `read_lookup` answers and leaves in the writers' words, with none of the word-by-word grammar: `Room` that columns hold a list; `GivenFor` the lookup that bytes are, as it reads; `Settled` the three answers; `ByTheWriters` that the call's statement is this, `NoOther` that this leaves no room.
 -- Assumes nothing.
 use Rattle.std.specs.Prelude.{◌≡◌, ◌↔◌, List, ℕ, ◌≤◌, length}
+use Rattle.refusals.specs.Numbers.{said}
 use Rattle.layouts.specs.Lookups.{Lookup}
 use Rattle.scanning.specs.Exact.{as_read}
-use Rattle.reading.specs.declared.Answer.{Answer}
-use Rattle.reading.specs.Read.{Columns, nothing, found, read_number, outcome_said, Reading}
+use Rattle.reading.specs.Read.{Columns, nothing, found, Answer, outcome_said, Reading}
 use Rattle.fidelity.specs.Reading.{AreBytes, WriterGives}
 
 -- each column has a place for all that goes into it: it is not "shorter than the answer"
@@ -20,11 +20,11 @@ pub record GivenFor (b : List ℕ) (l : Lookup) : Type 0 where
 -- lent the bytes b and the columns c, the call may answer r and leave the columns `left`:
 pub data Settled (b : List ℕ) (c : Columns) (r : Answer) (left : Columns) : Type 0 where
   -- the lookup that the bytes are, its list at the start of the columns, which hold it
-  read : (l : Lookup) → GivenFor b l → Room l c → read_number r ≡ 0 → outcome_said r left ≡ found l c → Settled b c r left
+  read : (l : Lookup) → GivenFor b l → Room l c → said r ≡ 0 → outcome_said r left ≡ found l c → Settled b c r left
   -- 8 where they do not hold it: zeros, and the columns as they were
-  no_room : (l : Lookup) → GivenFor b l → (Room l c → ⊥) → read_number r ≡ 8 → outcome_said r left ≡ nothing c → Settled b c r left
+  no_room : (l : Lookup) → GivenFor b l → (Room l c → ⊥) → said r ≡ 8 → outcome_said r left ≡ nothing c → Settled b c r left
   -- 7 where the bytes are none that the writer gives for any such list: likewise
-  no_lookup : ((l : Lookup) → WriterGives b l → ⊥) → read_number r ≡ 7 → outcome_said r left ≡ nothing c → Settled b c r left
+  no_lookup : ((l : Lookup) → WriterGives b l → ⊥) → said r ≡ 7 → outcome_said r left ≡ nothing c → Settled b c r left
 
 -- The call's statement allows just these answers.
 abbrev pub ByTheWriters : Type 0

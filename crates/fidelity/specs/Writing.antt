@@ -3,19 +3,19 @@
 -- Assumes nothing.
 use Rattle.std.specs.Prelude.{◌≡◌, true, cond, ◌↔◌, List, [], ◌∷◌, ℕ, ◌+◌, ◌*◌, ◌<◌, eqb, length, get_or}
 use Rattle.laws.specs.Lists.{Past}
+use Rattle.refusals.specs.Numbers.{said}
 use Rattle.refusals.specs.Promises.{Kept}
 use Rattle.words.specs.Words.{words_at}
 use Rattle.layouts.specs.declared.Kind.{Kind}
 use Rattle.layouts.specs.declared.Kind.TheVariants.{Single, Ligature}
-use Rattle.layouts.specs.declared.Written.{Written}
 use Rattle.layouts.specs.Lookups.{Lookup, lookup_of, width, known, rules, firsts}
-use Rattle.layouts.specs.Written.{write_rows, write_number, length_said, Writing}
+use Rattle.layouts.specs.Written.{Written, write_rows, length_said, Writing}
 use Rattle.reading.specs.Read.{type_of}
 use Rattle.fidelity.specs.Followed.{coverage_at, followed}
 
 -- What every call promises, of these two: one answer; a refusal alters no byte and answers a length of 0; the smallest number that applies is given.
 abbrev pub Promised : Type 0
-Promised = Kept Writing write_number (λ l area. write_rows l (length area)) (λ r _. length_said r ≡ 0)
+Promised = Kept Writing said (λ l area. write_rows l (length area)) (λ r _. length_said r ≡ 0)
 
 -- The area past the answered length is untouched, all of it where the lookup is refused, and it neither grows nor shrinks.
 abbrev pub PastTheAnswer : Type 0
@@ -39,7 +39,7 @@ size_of (Ligature n) count s = 18 + 6 * s + count * (4 + 2 * n)
 
 -- A lookup that is written has as many bytes as document 01 says, by its rules and by where their first components change.
 abbrev pub Size : Type 0
-Size = (l : Lookup) (area : List ℕ) (r : Written) (left : List ℕ) → Writing l area r left → write_number r ≡ 0 → length_said r ≡ size_of l.kind (length l.substitutes) (length (changes (firsts l)))
+Size = (l : Lookup) (area : List ℕ) (r : Written) (left : List ℕ) → Writing l area r left → said r ≡ 0 → length_said r ≡ size_of l.kind (length l.substitutes) (length (changes (firsts l)))
 
 -- ---- from which number on 5 is given
 -- flags and columns are lent as numbers of 16 bits
@@ -54,7 +54,7 @@ Even l = length l.glyphs ≡ length l.substitutes * width l.kind
 
 -- 5 is given exactly when there are over `most` rules
 abbrev pub OffsetFrom : ℕ → Lookup → Type 0
-OffsetFrom most l = (area : List ℕ) (r : Written) (left : List ℕ) → Writing l area r left → (write_number r ≡ 5) ↔ (most < length l.substitutes)
+OffsetFrom most l = (area : List ℕ) (r : Written) (left : List ℕ) → Writing l area r left → (said r ≡ 5) ↔ (most < length l.substitutes)
 
 -- "n = 32,764 is written, 32,765 refused (5)"
 abbrev pub most_single : ℕ
@@ -94,7 +94,7 @@ format_of (Ligature n) = 1
 -- The area begins with OpenType's lookup type, the flags, one subtable, which begins at byte 8, and its format.
 abbrev pub Headed : Type 0
 Headed =
-    (l : Lookup) (area : List ℕ) (r : Written) (left : List ℕ) → Writing l area r left → write_number r ≡ 0
+    (l : Lookup) (area : List ℕ) (r : Written) (left : List ℕ) → Writing l area r left → said r ≡ 0
     → words_at left 0 5 ≡ type_of l.kind ∷ l.flags ∷ 1 ∷ 8 ∷ format_of l.kind ∷ []
 
 -- the glyphs of the coverage: of a single lookup all, of a ligature lookup the first of each set
@@ -108,11 +108,11 @@ covered l = covered_in l.kind (firsts l)
 -- Following the coverage's offset finds it, in format 1.
 abbrev pub Covered : Type 0
 Covered =
-    (l : Lookup) (area : List ℕ) (r : Written) (left : List ℕ) → Writing l area r left → write_number r ≡ 0
+    (l : Lookup) (area : List ℕ) (r : Written) (left : List ℕ) → Writing l area r left → said r ≡ 0
     → words_at left (coverage_at left) (2 + length (covered l)) ≡ 1 ∷ length (covered l) ∷ covered l
 
 -- Following every offset, as OpenType's tables say, finds every rule of the list, in its order: its glyphs and what stands for them.
 abbrev pub EveryOffset : Type 0
 EveryOffset =
-    (l : Lookup) (area : List ℕ) (r : Written) (left : List ℕ) → Writing l area r left → write_number r ≡ 0
+    (l : Lookup) (area : List ℕ) (r : Written) (left : List ℕ) → Writing l area r left → said r ≡ 0
     → followed left ≡ rules (width l.kind) l.glyphs l.substitutes

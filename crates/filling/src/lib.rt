@@ -35,17 +35,13 @@ fn fill_rules(
     requires { (2 ≤ n) × (n ≤ 3) × (at + c * (2 + 2 * n) ≤ length bytes.now) × (x + c * n ≤ length components.old) × (i + c ≤ length ligatures.old) }
     ensures { Filled (rules_at n lead c bytes.now at) components.old x ligatures.old i components.new ligatures.new }
 {
-    let mut left = c;
     let mut p = at;
     let mut y = x;
-    let mut j = i;
-    while 0 < left {
+    for j in i..i + c {
         fill_rule(n, lead, bytes, p, components, y);
         ligatures[j] = words::u16_at(bytes, p);
         p += 2 + 2 * n;
         y += n;
-        j += 1;
-        left -= 1;
     }
 }
 
@@ -55,14 +51,13 @@ pub fn fill_sets(n: usize, s: usize, bytes: &[u8], components: &mut [u16], ligat
     requires bytes_in_bounds { (length (flat (all_rules n s bytes.now)) ≤ length components.old) × (length (all_rules n s bytes.now) ≤ length ligatures.old) }
     ensures { Filled (all_rules n s bytes.now) components.old 0 ligatures.old 0 components.new ligatures.new }
 {
-    let mut left = s;
-    let mut leads = 18 + 2 * s;
+    let leads = 18 + 2 * s;
     let mut p = 18 + 4 * s;
     let mut x = 0;
     let mut i = 0;
-    while 0 < left {
-        let c = words::u16_at(bytes, p) as usize;
-        let lead = words::u16_at(bytes, leads);
+    for k in 0..s {
+        let c = usize::from(words::u16_at(bytes, p));
+        let lead = words::u16_at(bytes, leads + 2 * k);
         fill_rules(
             n,
             lead,
@@ -74,10 +69,8 @@ pub fn fill_sets(n: usize, s: usize, bytes: &[u8], components: &mut [u16], ligat
             ligatures,
             i,
         );
-        leads += 2;
         p += 2 + c * (4 + 2 * n);
         x += c * n;
         i += c;
-        left -= 1;
     }
 }

@@ -1,6 +1,6 @@
--- What the call answers: bytes that are no lookup (`no_lookup_lem`), columns too short for one (`no_room`), and a lookup read (`read_whole`); how many rules a lookup has, by the number of its bytes (`single-count`, `ligature-count`); so a lookup of each kind (`single-place`, `single-room`, `single-read`; `ligature-place`, `rules-count`, `parts-count`, `ligature-room`, `ligature-read`); what the bytes were recognized as (`held_none`, `held-single`, `held-ligature`).
+-- What the call answers: bytes that are no lookup (`no_lookup_lem`), columns too short for one (`no_room`), and a lookup read (`read_whole`); how many rules a lookup has, by the number of its bytes (`single-count`, `ligature-count`); so a lookup of each kind (`single-place`, `single-room`, `single-read`; `ligature-place`, `rules-count`, `parts-count`, `ligature-room`, `ligature-read`).
 -- Assumes nothing.
-use mathlib.Core.Path.{◌≡◌, refl, subst, ◌∙◌}
+use mathlib.Core.Path.{◌≡◌, refl, ◌∙◌}
 use mathlib.Core.Bool.{Bool, true, false, ◌||◌}
 use mathlib.Core.List.{List, ◌++◌}
 use Prim.Native.Nat.{ℕ, suc, ◌+◌, ◌-◌, ◌*◌, ◌/◌, ◌≤◌, ◌<◌}
@@ -9,8 +9,9 @@ use native.Mathlib.Omega.{arith}
 use borrow.Author.Tests.{ltb-true, ltb-false}
 use lib.Dec.{ltb}
 use lib.ListN.{length, drop, length-map}
+use Rattle.std.specs.Prelude.{Ok, Err}
+use Rattle.refusals.specs.Numbers.{said as number_said}
 use Rattle.refusals.specs.declared.Refusal.TheVariants.{NoLookup, NoRoom}
-use Rattle.layouts.specs.declared.Kind.{Kind}
 use Rattle.layouts.specs.declared.Kind.TheVariants.{Single, Ligature}
 use Rattle.layouts.specs.Lookups.{Lookup, flat, ligatures}
 use Rattle.words.specs.Words.{word_at, words_at}
@@ -20,32 +21,28 @@ use Rattle.scanning.specs.Grammar.{reading}
 use Rattle.grouping.specs.Grouped.{leads_at}
 use Rattle.filling.specs.Filled.{Filled}
 use Rattle.filling.proofs.RuleLaws.{end_is, flat-sets}
-use Rattle.recognizing.specs.declared.Recognized.{Recognized}
-use Rattle.recognizing.specs.declared.Recognized.TheVariants.{Nothing, As}
-use Rattle.recognizing.specs.Recognized.{count_at, rules_in, lookup_at, end_of, Held, Recognizing}
-use Rattle.reading.specs.declared.Answer.{Answer}
-use Rattle.reading.specs.declared.Answer.TheVariants.{Read, Refused}
-use Rattle.reading.specs.Read.{Columns, list_of, found, read_refusal, read_number, outcome_said, Reading}
+use Rattle.recognizing.specs.Recognized.{count_at, rules_in, lookup_at, end_of, Held}
+use Rattle.reading.specs.Read.{Columns, list_of, found, read_refusal, Answer, outcome_said, Reading}
 
 -- ---- what the call answers
 module _ (b : List ℕ) (c : Columns) where
-  pub no_lookup_lem : ((l : Lookup) → reading b ≡ fine l → ⊥) → Reading b c (Refused NoLookup) c
+  pub no_lookup_lem : ((l : Lookup) → reading b ≡ fine l → ⊥) → Reading b c (Err NoLookup) c
   unfolding read_refusal
   no_lookup_lem other = go (reading b) refl
     where
-      go : (s : Scan) → reading b ≡ s → Reading b c (Refused NoLookup) c
+      go : (s : Scan) → reading b ≡ s → Reading b c (Err NoLookup) c
       go (fine l) e = absurd (other l e)
       go (wrong n) e = rw e
       go short e = rw e
 
   module _ (l : Lookup) (said : reading b ≡ fine l) where
-    pub no_room : (ltb (length c.glyphs) (length l.glyphs) || ltb (length c.substitutes) (length l.substitutes)) ≡ true → Reading b c (Refused NoRoom) c
+    pub no_room : (ltb (length c.glyphs) (length l.glyphs) || ltb (length c.substitutes) (length l.substitutes)) ≡ true → Reading b c (Err NoRoom) c
     unfolding read_refusal
     no_room h = rw (said, h)
 
     pub read_whole :
         (ltb (length c.glyphs) (length l.glyphs) || ltb (length c.substitutes) (length l.substitutes)) ≡ false
-        → (r : Answer) → read_number r ≡ 0 → (left : Columns) → outcome_said r left ≡ found l c → Reading b c r left
+        → (r : Answer) → number_said r ≡ 0 → (left : Columns) → outcome_said r left ≡ found l c → Reading b c r left
     unfolding read_refusal
     read_whole h r accepted left e = rw (said, h, accepted, e)
 
@@ -88,15 +85,15 @@ module _ (b g s : List ℕ) (h : Held Single b) (n : ℕ) (count : n ≡ (length
   unfolding lookup_at
   lengths t e = rw (length-words b (18 + 2 * count_at b) (count_at b), length-words b 14 (count_at b), ← n-is) e
 
-  pub single-room : (ltb (length g) n || ltb (length s) n) ≡ true → Reading b (list_of g s) (Refused NoRoom) (list_of g s)
+  pub single-room : (ltb (length g) n || ltb (length s) n) ≡ true → Reading b (list_of g s) (Err NoRoom) (list_of g s)
   single-room e = no_room b (list_of g s) (lookup_at Single b) h.said (lengths true e)
 
   pub single-read :
       (ltb (length g) n || ltb (length s) n) ≡ false → (flags : ℕ) → flags ≡ word_at b 2 → (g' s' : List ℕ) → g' ≡ words_at b (18 + 2 * n) n ++ drop n g → s' ≡ words_at b 14 n ++ drop n s
-      → Reading b (list_of g s) (Read (record { flags = flags; len = n; kind = Single })) (list_of g' s')
+      → Reading b (list_of g s) (Ok (record { flags = flags; len = n; kind = Single })) (list_of g' s')
   unfolding lookup_at
   single-read e flags f g' s' p q =
-      read_whole b (list_of g s) (lookup_at Single b) h.said (lengths false e) (Read (record { flags = flags; len = n; kind = Single })) refl (list_of g' s')
+      read_whole b (list_of g s) (lookup_at Single b) h.said (lengths false e) (Ok (record { flags = flags; len = n; kind = Single })) refl (list_of g' s')
       (rw (f, p, q, n-is, length-words b (18 + 2 * count_at b) (count_at b), length-words b 14 (count_at b)))
 
 -- ---- a ligature lookup
@@ -117,23 +114,13 @@ module _ (m : ℕ) (b g s : List ℕ) (h : Held (Ligature m) b) (low : 2 ≤ m) 
     unfolding lookup_at
     rooms t e = rw (parts-count, length-map, ← rules-count) e
 
-    pub ligature-room : (ltb (length g) (n * m) || ltb (length s) n) ≡ true → Reading b (list_of g s) (Refused NoRoom) (list_of g s)
+    pub ligature-room : (ltb (length g) (n * m) || ltb (length s) n) ≡ true → Reading b (list_of g s) (Err NoRoom) (list_of g s)
     ligature-room e = no_room b (list_of g s) (lookup_at (Ligature m) b) h.said (rooms true e)
 
     pub ligature-read :
         (ltb (length g) (n * m) || ltb (length s) n) ≡ false → (flags : ℕ) → flags ≡ word_at b 2 → (g' s' : List ℕ) → Filled (rules_in m b) g 0 s 0 g' s'
-        → Reading b (list_of g s) (Read (record { flags = flags; len = n; kind = Ligature m })) (list_of g' s')
+        → Reading b (list_of g s) (Ok (record { flags = flags; len = n; kind = Ligature m })) (list_of g' s')
     unfolding lookup_at
     ligature-read e flags f g' s' d =
-        read_whole b (list_of g s) (lookup_at (Ligature m) b) h.said (rooms false e) (Read (record { flags = flags; len = n; kind = Ligature m })) refl (list_of g' s')
+        read_whole b (list_of g s) (lookup_at (Ligature m) b) h.said (rooms false e) (Ok (record { flags = flags; len = n; kind = Ligature m })) refl (list_of g' s')
         (rw (f, d.parts, d.wholes, paste_front (flat (rules_in m b)) g, paste_front (ligatures (rules_in m b)) s, rules-count, length-map))
-
--- ---- what was recognized
-pub held_none : (b : List ℕ) {r : Recognized} → r ≡ Nothing → Recognizing b r → (l : Lookup) → reading b ≡ fine l → ⊥
-held_none b e h = subst (Recognizing b) e h
-
-pub held-single : (b : List ℕ) {r : Recognized} (kind : Kind) → r ≡ As kind → kind ≡ Single → Recognizing b r → Held Single b
-held-single b kind e f h = subst (λ (k : Kind). Recognizing b (As k)) f (subst (Recognizing b) e h)
-
-pub held-ligature : (b : List ℕ) {r : Recognized} (kind : Kind) → r ≡ As kind → (n : ℕ) → kind ≡ Ligature n → Recognizing b r → Held (Ligature n) b × ((2 ≤ n) × (n ≤ 3))
-held-ligature b kind e n f h = subst (λ (k : Kind). Recognizing b (As k)) f (subst (Recognizing b) e h)

@@ -1,19 +1,19 @@
 -- The call that reads a lookup back (document 01, "Reading back"): `Columns`, `list_of` what is lent; `list_lent` the same from a call's parameters, as an `ensures` has them; `ReadOutcome` what is there afterwards; `type_of`, `components_of_lem` what a kind says; `nothing`, `found`, `made` what is there with no lookup read, with one, and as the bytes decide; `accepted`, `lacking`, `read_rows`, `read_refusal` when reading is refused, and with which number;
--- `read_number`, `outcome_said` what an answer says; `read_after`, `Reading` what the call answers and leaves, of every input.
+-- `Answer`, `outcome_said` an answer, and what it says; `read_after`, `Reading` what the call answers and leaves, of every input.
 -- Assumes nothing.
-use Rattle.std.specs.Prelude.{◌≡◌, Bool, true, false, not, ◌||◌, List, [], ◌∷◌, ◌++◌, ℕ, ltb, length, drop}
+use Rattle.std.specs.Prelude.{◌≡◌, Bool, true, false, not, ◌||◌, List, [], ◌∷◌, ◌++◌, ℕ, ltb, length, drop, Result, Ok, Err}
 use denote.Triple.Both.{Both}
 use Rattle.laws.specs.Lent.{BorrowedMut}
 use Rattle.laws.specs.Rows.{Row, Given, first}
-use Rattle.refusals.specs.Numbers.{number_of}
+use Rattle.refusals.specs.declared.Refusal.{Refusal}
+use Rattle.refusals.specs.Numbers.{said}
 use Rattle.refusals.specs.Left.{Left, After, leaves}
 use Rattle.layouts.specs.declared.Kind.{Kind}
 use Rattle.layouts.specs.declared.Kind.TheVariants.{Single, Ligature}
 use Rattle.layouts.specs.Lookups.{Lookup}
 use Rattle.scanning.specs.Scans.{Scan, fine, wrong, short}
 use Rattle.scanning.specs.Grammar.{reading}
-use Rattle.reading.specs.declared.Answer.{Answer}
-use Rattle.reading.specs.declared.Answer.TheVariants.{Read, Refused}
+use Rattle.reading.specs.declared.Lookup.{Lookup as LookupRead}
 
 -- two columns for the list: glyphs, or flat components; substitutes, or ligatures
 pub record Columns : Type 0 where
@@ -90,14 +90,14 @@ made (fine l) c = found l c
 made (wrong left) c = nothing c
 made short c = nothing c
 
--- what an answer says; a refusal has its number, and zeros elsewhere
-abbrev pub read_number : Answer → ℕ
-read_number (Read l) = 0
-read_number (Refused k) = number_of k
+-- what the call answers: a lookup as read, or why none was
+abbrev pub Answer : Type 0
+Answer = Result LookupRead Refusal
 
+-- what an answer says; a refusal says zeros
 abbrev pub outcome_said : Answer → Columns → ReadOutcome
-outcome_said (Read l) c = record { type = type_of l.kind; components = components_of_lem l.kind; flags = l.flags; count = l.len; list = c }
-outcome_said (Refused k) c = nothing c
+outcome_said (Ok l) c = record { type = type_of l.kind; components = components_of_lem l.kind; flags = l.flags; count = l.len; list = c }
+outcome_said (Err k) c = nothing c
 
 -- a refusal leaves the columns as they were
 abbrev pub read_after : List ℕ → Columns → Left ReadOutcome
@@ -105,4 +105,4 @@ read_after b c = leaves (read_refusal (reading b) c) (nothing c) (made (reading 
 
 -- the statement of `read_lookup`: lent the bytes b and two columns, it may answer r and leave the columns `left`
 abbrev pub Reading : List ℕ → Columns → Answer → Columns → Type 0
-Reading b c r left = After (read_number r) (outcome_said r left) ≡ read_after b c
+Reading b c r left = After (said r) (outcome_said r left) ≡ read_after b c

@@ -4,14 +4,13 @@
 ghost use Rattle.std.specs.Prelude.{◌≡◌, ◌≤◌};
 ghost use Rattle.layouts.specs.declared.Kind.TheVariants.{Single, Ligature};
 ghost use Rattle.recognizing.specs.Recognized.{Held};
-ghost use Rattle.reading.specs.Read.{list_lent, type_of, components_of_lem, read_number, Reading};
+ghost use Rattle.reading.specs.Read.{list_lent, type_of, components_of_lem, Reading};
 
 use layouts::Kind;
-use recognizing::Recognized;
 use refusals::Refusal;
 
 // A lookup as read: its flags, how many rules it has, and whether it is single, or ligature with its component number.
-#[derive(Clone, Copy)]
+#[derive(Clone, Copy, Debug, PartialEq, Eq)]
 pub struct Lookup {
     pub flags: u16,
     pub len: usize,
@@ -19,23 +18,7 @@ pub struct Lookup {
 }
 
 // What the call answers.
-#[derive(Clone, Copy)]
-pub enum Answer {
-    Read(Lookup),
-    Refused(Refusal),
-}
-
-impl Answer {
-    // Document 01's number, 0 for an accepted call.
-    pub fn number(self) -> u8
-        ensures { result ≡ read_number self }
-    {
-        match self {
-            Answer::Read(_) => 0,
-            Answer::Refused(refusal) => refusal.number(),
-        }
-    }
-}
+pub type Answer = Result<Lookup, Refusal>;
 
 // OpenType's number of a kind of lookup.
 pub fn type_of(kind: Kind) -> u8
@@ -65,13 +48,13 @@ fn read_single(bytes: &[u8], glyphs: &mut [u16], substitutes: &mut [u16]) -> Ans
 {
     let n = (bytes.len() - 18) / 4;
     if (glyphs.len() < n) | (substitutes.len() < n) {
-        return Answer::Refused(Refusal::NoRoom);
+        return Err(Refusal::NoRoom);
     }
     words::get_words(bytes, 18 + 2 * n, n, glyphs);
     words::get_words(bytes, 14, n, substitutes);
     let flags = words::u16_at(bytes, 2);
-    Answer::Read(Lookup {
-        flags: flags,
+    Ok(Lookup {
+        flags,
         len: n,
         kind: Kind::Single,
     })
@@ -83,16 +66,16 @@ fn read_ligature(n: u8, bytes: &[u8], components: &mut [u16], ligatures: &mut [u
     ensures { let c = list_lent components ligatures in
         Reading bytes.now c.entry result c.exit }
 {
-    let width = n as usize;
-    let sets = (words::u16_at(bytes, 10) as usize - 6) / 2;
+    let width = usize::from(n);
+    let sets = (usize::from(words::u16_at(bytes, 10)) - 6) / 2;
     let count = (bytes.len() - (18 + 6 * sets)) / (4 + 2 * width);
     if (components.len() < count * width) | (ligatures.len() < count) {
-        return Answer::Refused(Refusal::NoRoom);
+        return Err(Refusal::NoRoom);
     }
     filling::fill_sets(width, sets, bytes, components, ligatures);
     let flags = words::u16_at(bytes, 2);
-    Answer::Read(Lookup {
-        flags: flags,
+    Ok(Lookup {
+        flags,
         len: count,
         kind: Kind::Ligature(n),
     })
@@ -104,10 +87,8 @@ pub fn read_lookup(bytes: &[u8], glyphs: &mut [u16], substitutes: &mut [u16]) ->
         Reading bytes.now c.entry result c.exit }
 {
     match recognizing::recognize(bytes) {
-        Recognized::Nothing => Answer::Refused(Refusal::NoLookup),
-        Recognized::As(kind) => match kind {
-            Kind::Single => read_single(bytes, glyphs, substitutes),
-            Kind::Ligature(n) => read_ligature(n, bytes, glyphs, substitutes),
-        },
+        None => Err(Refusal::NoLookup),
+        Some(Kind::Single) => read_single(bytes, glyphs, substitutes),
+        Some(Kind::Ligature(n)) => read_ligature(n, bytes, glyphs, substitutes),
     }
 }

@@ -14,9 +14,9 @@ use Rattle.layouts.specs.Lookups.{Lookup}
 use Rattle.scanning.specs.Scans.{Scan, Rest, fine, wrong, short, end, further}
 use Rattle.scanning.specs.Grammar.{single_scan, ligature_scan, scan, reading, left_over}
 use Rattle.scanning.proofs.KindLaws.{further-second}
-use Rattle.accepting.specs.declared.Scanned.{Scanned}
-use Rattle.accepting.specs.declared.Scanned.TheVariants.{At, Wrong, Short}
-use Rattle.accepting.specs.Scanned.{from, after, Took}
+use Rattle.std.specs.Prelude.{Ok, Err}
+use Rattle.accepting.specs.declared.Fault.TheVariants.{Wrong, Short}
+use Rattle.accepting.specs.Scanned.{Scanned, from, after, Took}
 use Rattle.recognizing.specs.Recognized.{lookup_at, Opened, single_part, SingleTaken, ligature_part, LigatureTaken, Inside, ends_in, Held}
 
 -- nothing is read
@@ -30,9 +30,8 @@ short-other : Other short
 short-other l e = let z : ◌≡◌ {A = ℕ} 0 1 = cc in omega arith
 
 pub took_inside : {A : Type 0} {part : (A → Rest) → Rest} {value : A} {e : ℕ} {b : List ℕ} {p : ℕ} (r : Scanned) → Took part value e b p r → Inside r (length b)
-took_inside (At q) t = t.place.1
-took_inside (Wrong q) t = tt
-took_inside Short t = tt
+took_inside (Ok q) t = t.place.1
+took_inside (Err f) t = tt
 
 -- ---- one scan
 -- no word from a place on
@@ -54,17 +53,16 @@ some_left l b p h = rw (words-next b p _ (some (length b - p) h)) (wrong-other _
 module _ (part : (Lookup → Rest) → Rest) {l : Lookup} {e : ℕ} (b : List ℕ) where
   pub scan-fine : (r : Scanned) → Took part l e b 0 r → ends_in r (length b) ≡ true → (part (end) (from b 0) ≡ fine l) × ((e ≤ length b) × (length b < e + 2))
   unfolding after end
-  scan-fine (At p) t h =
+  scan-fine (Ok p) t h =
       let left : length b - p < 2 = ltb-true (length b - p) 2 h in
       (t.goes end ∙ rw (none_left b p left), (omega (arith, t.place.0, t.place.1), omega (arith, t.place.0, t.place.1, left)))
-  scan-fine (Wrong p) t h = absurd (false≢true h)
-  scan-fine Short t h = absurd (false≢true h)
+  scan-fine (Err f) t h = absurd (false≢true h)
 
   pub scan-other : (r : Scanned) → Took part l e b 0 r → ends_in r (length b) ≡ false → Other (part end (from b 0))
   unfolding after
-  scan-other (At p) t h x f = some_left l b p (ltb-false (length b - p) 2 h) x (sym (t.goes end) ∙ f)
-  scan-other (Wrong p) t h x f = wrong-other _ x (sym (t.goes end) ∙ f)
-  scan-other Short t h x f = short-other x (sym (t.goes end) ∙ f)
+  scan-other (Ok p) t h x f = some_left l b p (ltb-false (length b - p) 2 h) x (sym (t.goes end) ∙ f)
+  scan-other (Err (Wrong p)) t h x f = wrong-other _ x (sym (t.goes end) ∙ f)
+  scan-other (Err Short) t h x f = short-other x (sym (t.goes end) ∙ f)
 
 -- ---- the three kinds
 further-none : (s t : Scan) → Other s → Other t → Other (further s t)
@@ -115,9 +113,8 @@ module _ (b : List ℕ) where
 
 -- ---- what is answered
 pub opened_ends : (r : Scanned) (b : List ℕ) → ends_in r (length b) ≡ true → Opened r b → 6 ≤ word_at b 10
-opened_ends (At p) b h o = o
-opened_ends (Wrong p) b h o = absurd (false≢true h)
-opened_ends Short b h o = absurd (false≢true h)
+opened_ends (Ok p) b h o = o
+opened_ends (Err f) b h o = absurd (false≢true h)
 
 module _ (b : List ℕ) (r : Scanned) where
   -- a single lookup that came to its end

@@ -1,6 +1,6 @@
 -- The lookup that bytes hold, by its places: `begun`, `count_at` what both kinds begin with; `lookup_at`, `end_of` the lookup of a kind, and where it ends; `Opened`, `SingleTaken`, `LigatureTaken` what scanning one answers; `Inside`, `ends_in` that a scan came to the end; `Recognizing` what bytes are recognized as.
 -- Assumes nothing.
-use Rattle.std.specs.Prelude.{◌≡◌, Bool, false, List, [], ◌∷◌, ℕ, ◌+◌, ◌-◌, ◌*◌, ◌/◌, ◌≤◌, ◌<◌, ltb, length}
+use Rattle.std.specs.Prelude.{◌≡◌, Bool, false, List, [], ◌∷◌, ℕ, ◌+◌, ◌-◌, ◌*◌, ◌/◌, ◌≤◌, ◌<◌, ltb, length, Option, None, Some, Ok, Err}
 use Rattle.words.specs.Words.{word_at, words_at}
 use Rattle.layouts.specs.declared.Kind.{Kind}
 use Rattle.layouts.specs.declared.Kind.TheVariants.{Single, Ligature}
@@ -8,12 +8,8 @@ use Rattle.layouts.specs.Tables.{Rule}
 use Rattle.layouts.specs.Lookups.{Lookup, lookup_of, flat, ligatures}
 use Rattle.scanning.specs.Scans.{Rest, fine, exactly, several}
 use Rattle.scanning.specs.Grammar.{headed, counted, covered, most_single, most_sets, starts, settled, reading}
-use Rattle.accepting.specs.declared.Scanned.{Scanned}
-use Rattle.accepting.specs.declared.Scanned.TheVariants.{At, Wrong, Short}
-use Rattle.accepting.specs.Scanned.{Took}
+use Rattle.accepting.specs.Scanned.{Scanned, Took}
 use Rattle.grouping.specs.Grouped.{sets_at, end_at, leads_at}
-use Rattle.recognizing.specs.declared.Recognized.{Recognized}
-use Rattle.recognizing.specs.declared.Recognized.TheVariants.{Nothing, As}
 
 -- ---- what both kinds begin with
 abbrev pub begun : ℕ → ℕ → ℕ → ((ℕ × ℕ) → Rest) → Rest
@@ -38,9 +34,8 @@ end_of (Ligature n) b = end_at n (leads_at (count_at b) b) b (18 + 4 * count_at 
 -- ---- what scanning one answers
 -- a lookup that was taken to its end says by an offset how many numbers it has
 abbrev pub Opened : Scanned → List ℕ → Type 0
-Opened (At p) b = 6 ≤ word_at b 10
-Opened (Wrong p) b = Unit
-Opened Short b = Unit
+Opened (Ok p) b = 6 ≤ word_at b 10
+Opened (Err f) b = Unit
 
 abbrev pub single_part : (Lookup → Rest) → Rest
 single_part k = begun 1 2 most_single (λ x. several x.1 (λ substitutes. covered 0 x.1 (λ glyphs. k (lookup_of x.0 Single glyphs substitutes))))
@@ -57,15 +52,13 @@ LigatureTaken n b r = Took (ligature_part n) (lookup_at (Ligature n) b) (end_of 
 
 -- a place is in the bytes
 abbrev pub Inside : Scanned → ℕ → Type 0
-Inside (At p) len = p ≤ len
-Inside (Wrong p) len = Unit
-Inside Short len = Unit
+Inside (Ok p) len = p ≤ len
+Inside (Err f) len = Unit
 
 -- no word is left
 abbrev pub ends_in : Scanned → ℕ → Bool
-ends_in (At p) len = ltb (len - p) 2
-ends_in (Wrong p) len = false
-ends_in Short len = false
+ends_in (Ok p) len = ltb (len - p) 2
+ends_in (Err f) len = false
 
 -- ---- what bytes are recognized as
 -- a lookup that fills the bytes
@@ -75,7 +68,7 @@ pub record Held (kind : Kind) (b : List ℕ) : Type 0 where
   pub within : end_of kind b ≤ length b
   pub filled : length b < end_of kind b + 2
 
-abbrev pub Recognizing : List ℕ → Recognized → Type 0
-Recognizing b Nothing = (l : Lookup) → reading b ≡ fine l → ⊥
-Recognizing b (As Single) = Held Single b
-Recognizing b (As (Ligature n)) = Held (Ligature n) b × ((2 ≤ n) × (n ≤ 3))
+abbrev pub Recognizing : List ℕ → Option Kind → Type 0
+Recognizing b None = (l : Lookup) → reading b ≡ fine l → ⊥
+Recognizing b (Some Single) = Held Single b
+Recognizing b (Some (Ligature n)) = Held (Ligature n) b × ((2 ≤ n) × (n ≤ 3))

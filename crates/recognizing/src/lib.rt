@@ -9,27 +9,13 @@ ghost use Rattle.recognizing.specs.Recognized.{begun, count_at, Inside, ends_in,
 use accepting::Scanned;
 use layouts::Kind;
 
-// What bytes are: no lookup, or one of a kind.
-#[derive(Clone, Copy)]
-pub enum Recognized {
-    Nothing,
-    As(Kind),
-}
-
 // What both kinds begin with: type, flags and the one subtable's place; its format, where its coverage begins, and a count.
 fn begun(kind: u16, format: u16, most: usize, bytes: &[u8]) -> Scanned
     requires { most < 65536 }
     ensures { Took (begun kind format most) (word_at bytes.now 2, count_at bytes.now) 14 bytes.now 0 result × Counts result most (word_at bytes.now 10) }
 {
-    let head = accepting::headed(kind, bytes);
-    let Scanned::At(p) = head else {
-        return head;
-    };
-    let formats = [format];
-    let subtable = accepting::exactly(&formats, bytes, p);
-    let Scanned::At(q) = subtable else {
-        return subtable;
-    };
+    let p = accepting::headed(kind, bytes)?;
+    let q = accepting::exactly(&[format], bytes, p)?;
     accepting::counted(most, bytes, q)
 }
 
@@ -38,15 +24,9 @@ fn single(bytes: &[u8]) -> Scanned
     ensures { SingleTaken bytes.now result × Opened result bytes.now }
 {
     // as many as a single lookup can have
-    let start = begun(1, 2, 32764, bytes);
-    let Scanned::At(p) = start else {
-        return start;
-    };
-    let n = (words::u16_at(bytes, 10) as usize - 6) / 2;
-    let substitutes = accepting::several(n, bytes, p);
-    let Scanned::At(q) = substitutes else {
-        return substitutes;
-    };
+    let p = begun(1, 2, 32764, bytes)?;
+    let n = (usize::from(words::u16_at(bytes, 10)) - 6) / 2;
+    let q = accepting::several(n, bytes, p)?;
     accepting::covered(0, n, bytes, q)
 }
 
@@ -56,19 +36,10 @@ fn ligature(n: usize, bytes: &[u8]) -> Scanned
     ensures { LigatureTaken n bytes.now result × Opened result bytes.now }
 {
     // as many sets of one rule as can begin at bytes of 16 bits
-    let start = begun(4, 1, (65531 + 2 * n) / (10 + 2 * n), bytes);
-    let Scanned::At(p) = start else {
-        return start;
-    };
-    let s = (words::u16_at(bytes, 10) as usize - 6) / 2;
-    let offsets = grouping::starts(n, s, bytes, p);
-    let Scanned::At(q) = offsets else {
-        return offsets;
-    };
-    let coverage = accepting::covered(1, s, bytes, q);
-    let Scanned::At(_) = coverage else {
-        return coverage;
-    };
+    let p = begun(4, 1, (65531 + 2 * n) / (10 + 2 * n), bytes)?;
+    let s = (usize::from(words::u16_at(bytes, 10)) - 6) / 2;
+    let q = grouping::starts(n, s, bytes, p)?;
+    accepting::covered(1, s, bytes, q)?;
     grouping::sets(n, s, bytes)
 }
 
@@ -78,27 +49,26 @@ fn ends(scanned: Scanned, len: usize) -> bool
     ensures { result ≡ ends_in scanned len }
 {
     match scanned {
-        Scanned::At(p) => len - p < 2,
-        Scanned::Wrong(_) => false,
-        Scanned::Short => false,
+        Ok(p) => len - p < 2,
+        Err(_) => false,
     }
 }
 
-// Of which kind a lookup is that the bytes are.
-pub fn recognize(bytes: &[u8]) -> Recognized
+// Of which kind a lookup is that the bytes are, if they are one.
+pub fn recognize(bytes: &[u8]) -> Option<Kind>
     ensures { Recognizing bytes.now result }
 {
     if bytes.len() % 2 != 0 {
-        return Recognized::Nothing;
+        return None;
     }
     if ends(single(bytes), bytes.len()) {
-        return Recognized::As(Kind::Single);
+        return Some(Kind::Single);
     }
     if ends(ligature(2, bytes), bytes.len()) {
-        return Recognized::As(Kind::Ligature(2));
+        return Some(Kind::Ligature(2));
     }
     if ends(ligature(3, bytes), bytes.len()) {
-        return Recognized::As(Kind::Ligature(3));
+        return Some(Kind::Ligature(3));
     }
-    Recognized::Nothing
+    None
 }

@@ -1,35 +1,36 @@
 -- `filling::fill_sets` meets its contract.
 -- Assumes nothing.
 use native.Mathlib.Omega.{arith}
-use Prim.Native.Nat.{◌+◌, ◌*◌, ◌<◌, ◌≤◌}
+use mathlib.Core.Path.{◌≡◌, ◌∙◌}
+use Prim.Native.Nat.{◌+◌, ◌-◌, ◌*◌, ◌<◌, ◌≤◌}
 use lib.ListN.{length}
 use Rattle.scanning.specs.Grammar.{set_size}
 use Rattle.filling.proofs.SetsLaws.{filling_begins, filling_reads, filling_fits, filling_next, filling_ends}
 use Rattle.filling.proofs.fill_sets.Goals as goal
-use Rattle.filling.proofs.fill_sets.Goals.{After-u16_at-lead, In-loop-left}
+use Rattle.filling.proofs.fill_sets.Goals.{After-u16_at-lead, In-loop-k}
 
 -- the next count and first glyph are in the bytes
-reads-next : (c : In-loop-left) → (c.loop-left.p + 2 ≤ length c.args.bytes.now) × (c.loop-left.leads + 2 ≤ length c.args.bytes.now)
+reads-next : (c : In-loop-k) → (c.loop-k.p + 2 ≤ length c.args.bytes.now) × (18 + 2 * c.args.s + 2 * c.loop-k.k + 2 ≤ length c.args.bytes.now)
 reads-next c =
     let a = c.args in
-    filling_reads a.n a.s a.bytes.now a.components.now a.ligatures.now c.loop-left.left c.loop-left.leads c.loop-left.p c.loop-left.x c.loop-left.i c.loop-left.components c.loop-left.ligatures c.loop-left.invariant
-    c.loop-left-test.true (omega (arith, c.requires.le_n.0)) c.requires.le_n.3
+    filling_reads a.n a.s a.bytes.now a.components.now a.ligatures.now (c.args.s - c.loop-k.k) (18 + 2 * c.args.s + 2 * c.loop-k.k) c.loop-k.p c.loop-k.x c.loop-k.i c.loop-k.components c.loop-k.ligatures c.loop-k.invariant
+    (omega (arith, c.loop-k-test.true)) (omega (arith, c.requires.le_n.0)) c.requires.le_n.3
 
 -- the next set is in the bytes, and its rules have room, with those behind them
-fits : (u : After-u16_at-lead) → (u.loop-left.p + set_size u.args.n u.u16_at-c.result ≤ length u.args.bytes.now) × ((u.loop-left.x + u.u16_at-c.result * u.args.n ≤ length u.loop-left.components) × (u.loop-left.i + u.u16_at-c.result ≤ length u.loop-left.ligatures))
+fits : (u : After-u16_at-lead) → (u.loop-k.p + set_size u.args.n u.from-c.result ≤ length u.args.bytes.now) × ((u.loop-k.x + u.from-c.result * u.args.n ≤ length u.loop-k.components) × (u.loop-k.i + u.from-c.result ≤ length u.loop-k.ligatures))
 fits u =
     let a = u.args in
     let f =
-    filling_fits a.n a.s a.bytes.now a.components.now a.ligatures.now u.loop-left.left u.loop-left.leads u.loop-left.p u.loop-left.x u.loop-left.i u.loop-left.components u.loop-left.ligatures u.loop-left.invariant
-    u.loop-left-test.true (omega (arith, u.requires.le_n.0)) u.requires.le_n.3 u.u16_at-c.result u.u16_at-lead.result u.u16_at-c.ensures u.u16_at-lead.ensures
+    filling_fits a.n a.s a.bytes.now a.components.now a.ligatures.now (u.args.s - u.loop-k.k) (18 + 2 * u.args.s + 2 * u.loop-k.k) u.loop-k.p u.loop-k.x u.loop-k.i u.loop-k.components u.loop-k.ligatures u.loop-k.invariant
+    (omega (arith, u.loop-k-test.true)) (omega (arith, u.requires.le_n.0)) u.requires.le_n.3 u.from-c.result u.u16_at-lead.result (u.from-c.ensures ∙ u.u16_at.ensures) u.u16_at-lead.ensures
     in
     (f.0, (omega (arith, f.1.0), omega (arith, f.1.1)))
 
 -- so these places are such as memory has
-near : (u : After-u16_at-lead) → (u.loop-left.p + set_size u.args.n u.u16_at-c.result < 9223372036854775808) × (u.loop-left.x + u.u16_at-c.result * u.args.n < 9223372036854775808) × (u.loop-left.i + u.u16_at-c.result < 9223372036854775808)
+near : (u : After-u16_at-lead) → (u.loop-k.p + set_size u.args.n u.from-c.result < 9223372036854775808) × (u.loop-k.x + u.from-c.result * u.args.n < 9223372036854775808) × (u.loop-k.i + u.from-c.result < 9223372036854775808)
 near u =
     let f = fits u in
-    let g = u.loop-left.invariant in
+    let g = u.loop-k.invariant in
     (omega (arith, f.0), omega (arith, f.1.0, g.long), omega (arith, f.1.1, g.wide))
 
 pub overflow_mul-leads : goal.overflow_mul-leads
@@ -44,54 +45,52 @@ overflow_mul-p c = omega (arith, c.requires.le_n.2)
 pub overflow_add-p : goal.overflow_add-p
 overflow_add-p c = omega (arith, c.requires.le_n.2)
 
-pub loop-left-init : goal.loop-left-init
-loop-left-init c =
+pub loop-k-init : goal.loop-k-init
+loop-k-init c =
     let a = c.args in
-    filling_begins a.n a.s a.bytes.now a.components.now a.ligatures.now c.requires.bytes_in_bounds.0 c.requires.bytes_in_bounds.1
+    let all : a.s - 0 ≡ a.s = omega arith in
+    let start : 18 + 2 * a.s + 0 ≡ 18 + 2 * a.s = omega arith in
+    rw (all, start) (filling_begins a.n a.s a.bytes.now a.components.now a.ligatures.now c.requires.bytes_in_bounds.0 c.requires.bytes_in_bounds.1)
 
-pub u16_at-c-requires : goal.u16_at-c-requires
-u16_at-c-requires c = omega (arith, (reads-next (goal.at.u16_at-c-requires c).In-loop-left).0)
+pub u16_at-requires : goal.u16_at-requires
+u16_at-requires c = omega (arith, (reads-next (goal.at.u16_at-requires c).In-loop-k).0)
 
 pub u16_at-lead-requires : goal.u16_at-lead-requires
-u16_at-lead-requires c = omega (arith, (reads-next (goal.at.u16_at-lead-requires c).In-loop-left).1)
+u16_at-lead-requires c = omega (arith, (reads-next (goal.at.u16_at-lead-requires c).In-loop-k).1)
 
-pub overflow_add-p-in-loop-left : goal.overflow_add-p-in-loop-left
-overflow_add-p-in-loop-left c = omega (arith, (near (goal.at.overflow_add-p-in-loop-left c).After-u16_at-lead).0)
+pub overflow_add-p-in-loop-k : goal.overflow_add-p-in-loop-k
+overflow_add-p-in-loop-k c = omega (arith, (near (goal.at.overflow_add-p-in-loop-k c).After-u16_at-lead).0)
 
 pub overflow_mul-c : goal.overflow_mul-c
 overflow_mul-c c = omega (arith, (near (goal.at.overflow_mul-c c).After-u16_at-lead).0)
 
-pub overflow_add-p-in-loop-left-2 : goal.overflow_add-p-in-loop-left-2
-overflow_add-p-in-loop-left-2 c = omega (arith, (near (goal.at.overflow_add-p-in-loop-left-2 c).After-u16_at-lead).0)
+pub overflow_add-p-in-loop-k-2 : goal.overflow_add-p-in-loop-k-2
+overflow_add-p-in-loop-k-2 c = omega (arith, (near (goal.at.overflow_add-p-in-loop-k-2 c).After-u16_at-lead).0)
 
 pub fill_rules-requires : goal.fill_rules-requires
 fill_rules-requires c =
     let f = fits (goal.at.fill_rules-requires c).After-u16_at-lead in
     (c.requires.le_n.0, c.requires.le_n.1, omega (arith, f.0), omega (arith, f.1.0), omega (arith, f.1.1))
 
-pub overflow_add-leads-in-loop-left : goal.overflow_add-leads-in-loop-left
-overflow_add-leads-in-loop-left c =
-    omega (arith, (reads-next (goal.at.overflow_add-leads-in-loop-left c).In-loop-left).1)
-
-pub overflow_mul-p-in-loop-left : goal.overflow_mul-p-in-loop-left
-overflow_mul-p-in-loop-left c =
+pub overflow_mul-p-in-loop-k : goal.overflow_mul-p-in-loop-k
+overflow_mul-p-in-loop-k c =
     omega (arith, c.requires.le_n.1)
 
-pub overflow_add-p-in-loop-left-3 : goal.overflow_add-p-in-loop-left-3
-overflow_add-p-in-loop-left-3 c =
+pub overflow_add-p-in-loop-k-3 : goal.overflow_add-p-in-loop-k-3
+overflow_add-p-in-loop-k-3 c =
     omega (arith, c.requires.le_n.1)
 
-pub overflow_mul-p-in-loop-left-2 : goal.overflow_mul-p-in-loop-left-2
-overflow_mul-p-in-loop-left-2 c =
-    omega (arith, (near (goal.at.overflow_mul-p-in-loop-left-2 c).After-u16_at-lead).0)
+pub overflow_mul-p-in-loop-k-2 : goal.overflow_mul-p-in-loop-k-2
+overflow_mul-p-in-loop-k-2 c =
+    omega (arith, (near (goal.at.overflow_mul-p-in-loop-k-2 c).After-u16_at-lead).0)
 
-pub overflow_add-p-in-loop-left-4 : goal.overflow_add-p-in-loop-left-4
-overflow_add-p-in-loop-left-4 c =
-    omega (arith, (near (goal.at.overflow_add-p-in-loop-left-4 c).After-u16_at-lead).0)
+pub overflow_add-p-in-loop-k-4 : goal.overflow_add-p-in-loop-k-4
+overflow_add-p-in-loop-k-4 c =
+    omega (arith, (near (goal.at.overflow_add-p-in-loop-k-4 c).After-u16_at-lead).0)
 
-pub overflow_add-p-in-loop-left-5 : goal.overflow_add-p-in-loop-left-5
-overflow_add-p-in-loop-left-5 c =
-    omega (arith, (near (goal.at.overflow_add-p-in-loop-left-5 c).After-u16_at-lead).0)
+pub overflow_add-p-in-loop-k-5 : goal.overflow_add-p-in-loop-k-5
+overflow_add-p-in-loop-k-5 c =
+    omega (arith, (near (goal.at.overflow_add-p-in-loop-k-5 c).After-u16_at-lead).0)
 
 pub overflow_mul-x : goal.overflow_mul-x
 overflow_mul-x c =
@@ -105,27 +104,24 @@ pub overflow_add-i : goal.overflow_add-i
 overflow_add-i c =
     omega (arith, (near (goal.at.overflow_add-i c).After-u16_at-lead).2)
 
-pub overflow_sub-left : goal.overflow_sub-left
-overflow_sub-left c =
-    omega (arith, c.loop-left-test.true)
-
-pub loop-left-smaller : goal.loop-left-smaller
-loop-left-smaller c =
-    omega (arith, c.loop-left-test.true)
-
-pub loop-left-preserved : goal.loop-left-preserved
-loop-left-preserved c =
+pub loop-k-preserved : goal.loop-k-preserved
+loop-k-preserved c =
     let a = c.args in
-    filling_next a.n a.s a.bytes.now a.components.now a.ligatures.now c.loop-left.left c.loop-left.leads c.loop-left.p c.loop-left.x c.loop-left.i c.loop-left.components c.loop-left.ligatures c.loop-left.invariant
-    c.loop-left-test.true (omega (arith, c.requires.le_n.0)) c.requires.le_n.3 c.u16_at-c.result c.u16_at-lead.result c.u16_at-c.ensures c.u16_at-lead.ensures _ _ c.fill_rules.ensures
+    let less : a.s - c.loop-k.k - 1 ≡ a.s - (c.loop-k.k + 1) = omega arith in
+    let on : 18 + 2 * a.s + 2 * c.loop-k.k + 2 ≡ 18 + 2 * a.s + 2 * (c.loop-k.k + 1) = omega arith in
+    let next =
+    filling_next a.n a.s a.bytes.now a.components.now a.ligatures.now (c.args.s - c.loop-k.k) (18 + 2 * c.args.s + 2 * c.loop-k.k) c.loop-k.p c.loop-k.x c.loop-k.i c.loop-k.components c.loop-k.ligatures c.loop-k.invariant
+    (omega (arith, c.loop-k-test.true)) (omega (arith, c.requires.le_n.0)) c.requires.le_n.3 c.from-c.result c.u16_at-lead.result (c.from-c.ensures ∙ c.u16_at.ensures) c.u16_at-lead.ensures _ _ c.fill_rules.ensures
+    in
+    rw (less, on) at next
 
 pub shape_of-components : goal.shape_of-components
-shape_of-components c = c.loop-left.invariant.long
+shape_of-components c = c.loop-k.invariant.long
 
 pub shape_of-ligatures : goal.shape_of-ligatures
-shape_of-ligatures c = c.loop-left.invariant.wide
+shape_of-ligatures c = c.loop-k.invariant.wide
 
 pub returns : goal.returns
 returns c =
     let a = c.args in
-    filling_ends a.n a.s a.bytes.now a.components.now a.ligatures.now c.loop-left.left c.loop-left.leads c.loop-left.p c.loop-left.x c.loop-left.i c.loop-left.components c.loop-left.ligatures c.loop-left.invariant (omega (arith, c.loop-left-test.false))
+    filling_ends a.n a.s a.bytes.now a.components.now a.ligatures.now (c.args.s - c.loop-k.k) (18 + 2 * c.args.s + 2 * c.loop-k.k) c.loop-k.p c.loop-k.x c.loop-k.i c.loop-k.components c.loop-k.ligatures c.loop-k.invariant (omega (arith, c.loop-k-test.false))

@@ -1,5 +1,6 @@
 -- `grouping::rule` meets its contract.
 -- Assumes nothing.
+use native.Mathlib.Omega.{arith}
 use Rattle.accepting.proofs.TookLaws.{handed}
 use Rattle.grouping.proofs.RuleLaws.{rule-stops, rule-number, rule_taken}
 use Rattle.grouping.proofs.rule.Goals as goal
@@ -10,7 +11,7 @@ returns-in_err-p c = λ lead.
     rw (handed c.from_residual.ensures) (rule-stops a.n a.bytes.now a.at lead _ c.in_err-p.ensures)
 
 pub exactly-requires : goal.exactly-requires
-exactly-requires c = c.in_ok-p.ensures.place.1
+exactly-requires c = omega (arith, c.in_ok-p.ensures.place, c.requires.0)
 
 pub returns-in_err-q : goal.returns-in_err-q
 returns-in_err-q c =

@@ -14,7 +14,7 @@ use Rattle.ordering.proofs.KeyLaws.{Each}
 use Rattle.drafts.specs.Entries.{Entry}
 use Rattle.windows.specs.Windows.{direct}
 use Rattle.fallback.specs.Plan.{Inputs, unicode, plan}
-use Rattle.fallback.specs.Planned.{PlanAnswer, plan_said, flat_by, Planning}
+use Rattle.fallback.specs.Planned.{PlanAnswer, flat_by, Planning}
 use Rattle.assurance.specs.Planning.{Says}
 use Rattle.assurance.specs.ByRows.{seven_lists, OfRows, OfLists, AsTheRows, EveryPlaceHasRows, WindowsWithoutRows}
 use Rattle.assurance.proofs.OriginLaws.{unicode-kept}

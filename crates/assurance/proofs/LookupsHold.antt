@@ -22,8 +22,7 @@ use Rattle.layouts.specs.Lookups.{Lookup, lookup_of, words_of}
 use Rattle.layouts.specs.Written.{write_outcome, write_refusal, Writing}
 use Rattle.layouts.proofs.WrittenLaws.{none-given}
 use Rattle.scanning.specs.Exact.{as_read, Readable}
-use Rattle.reading.specs.declared.Answer.{Answer}
-use Rattle.reading.specs.Read.{Columns, read_number, Reading}
+use Rattle.reading.specs.Read.{Columns, Answer, Reading}
 use Rattle.ordering.proofs.OrderLaws.{stable_once}
 use Rattle.drafts.specs.Entries.{Entry, bytes_of, size_of, all_bytes, masks_of, lengths_of, rule_limit}
 use Rattle.fallback.specs.Plan.{Inputs, plan}
@@ -43,7 +42,7 @@ module _ (l : Lookup) (q : Readable l) where
   -- its bytes are read
   reads_bytes :
       (c : Columns) → length l.glyphs ≤ length c.glyphs → length l.substitutes ≤ length c.substitutes
-      → (a : Answer) (list : Columns) → Reading (bytes (words_of l)) c a list → (read_number a ≡ 0) × (lookup_said a list ≡ as_read l)
+      → (a : Answer) (list : Columns) → Reading (bytes (words_of l)) c a list → (said a ≡ 0) × (lookup_said a list ≡ as_read l)
   reads_bytes c g s a list y =
       let b : List ℕ = bytes (words_of l) in
       let size : ℕ = 2 * length (words_of l) in
@@ -86,7 +85,7 @@ module _ (i : Inputs) (area : List ℕ) (r : PlanAnswer) (left : List ℕ) (x : 
     read :
         (c : Columns) → length e.lookup.glyphs ≤ length c.glyphs → length e.lookup.substitutes ≤ length c.substitutes
         → (a : Answer) (list : Columns) → Reading (cut_out (length before) r left) c a list
-        → (read_number a ≡ 0) × (lookup_said a list ≡ e.lookup) × (get_or (plan_said r).masks (length before) 0 ≡ e.mask)
+        → (said a ≡ 0) × (lookup_said a list ≡ e.lookup) × (get_or (plan_said r).masks (length before) 0 ≡ e.mask)
     read c g t a list y =
         let back = reads_bytes e.lookup good.readable c g t a list (rw (← cut) y) in
         (back.0, back.1 ∙ good.same, mask)
@@ -147,7 +146,7 @@ module _ (i : Inputs) (area : List ℕ) (r : PlanAnswer) (left : List ℕ) (x : 
   -- what is read there is the entry of that place
   pub place_read :
       (c : Columns) → most_glyphs ≤ length c.glyphs → rule_limit ≤ length c.substitutes → (a : Answer) (list : Columns) → Reading (cut_out k r left) c a list
-      → (read_number a ≡ 0) × (get_or (plan i) k none ≡ record { mask = get_or (plan_said r).masks k 0; lookup = lookup_said a list })
+      → (said a ≡ 0) × (get_or (plan i) k none ≡ record { mask = get_or (plan_said r).masks k 0; lookup = lookup_said a list })
   place_read c g t a list y =
       let es : List Entry = plan i in
       let place : length (take k es) ≡ k = length-take-le k es (omega (arith, place_inside)) in

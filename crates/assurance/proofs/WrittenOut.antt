@@ -5,7 +5,7 @@ use mathlib.Core.List.{List}
 use Prim.Native.Nat.{ℕ}
 use Rattle.laws.specs.Lent.{Borrowed}
 use Rattle.fallback.specs.Plan.{inputs_of, inputs_lent}
-use Rattle.fallback.specs.Planned.{PlanAnswer, plan_said, Planning}
+use Rattle.fallback.specs.Planned.{PlanAnswer, Planning}
 
 pub planning :
     (masks : List ℕ) (codes glyphs shaping forms c3 l3 c2 l2 cm lm : Borrowed ℕ) (area left : List ℕ) (r : PlanAnswer)

@@ -12,8 +12,7 @@ use Rattle.drafts.specs.Entries.{Entry, rule_limit}
 use Rattle.windows.specs.Windows.{direct}
 use Rattle.fallback.specs.Plan.{Ligatures, Inputs}
 use Rattle.fallback.specs.Planned.{PlanAnswer, plan_said, Planning}
-use Rattle.reading.specs.declared.Answer.{Answer}
-use Rattle.reading.specs.Read.{Columns, read_number, Reading}
+use Rattle.reading.specs.Read.{Columns, Answer, Reading}
 use Rattle.fidelity.specs.Reading.{lookup_said}
 use Rattle.assurance.specs.Planning.{Says}
 use Rattle.assurance.specs.Lookups.{cut_out, most_glyphs}
@@ -112,7 +111,7 @@ EveryPlaceHasRows =
     → (l : Lent) → Memᴰ l (seven_lists i) → Used i.font l
     → (k : ℕ) → k < (plan_said r).count → (c : Columns) → most_glyphs ≤ length c.glyphs → rule_limit ≤ length c.substitutes
     → (a : Answer) (list : Columns) → Reading (cut_out k r left) c a list
-    → (read_number a ≡ 0)
+    → (said a ≡ 0)
     × ((m : Lent) × Memᴰ m (seven_lists i) × Used i.font m × OfRows i.font m (record { mask = get_or (plan_said r).masks k 0; lookup = lookup_said a list }))
 
 -- Where none of the seven is used, it answers what is planned for a Windows-1256 font if it is one, and else nothing.

@@ -9,8 +9,7 @@ use Rattle.ordering.specs.Order.{Stable}
 use Rattle.drafts.specs.Entries.{Entry, size_of, rule_limit, longest_plan}
 use Rattle.fallback.specs.Plan.{Inputs, plan}
 use Rattle.fallback.specs.Planned.{PlanAnswer, plan_said, Planning}
-use Rattle.reading.specs.declared.Answer.{Answer}
-use Rattle.reading.specs.Read.{Columns, read_number, Reading}
+use Rattle.reading.specs.Read.{Columns, Answer, Reading}
 use Rattle.fidelity.specs.Reading.{lookup_said}
 use Rattle.assurance.specs.Origins.{Origin, origins, rules_of, From, Made}
 use Rattle.assurance.specs.Planning.{total}
@@ -63,7 +62,7 @@ EveryLookupReadsBack =
     → (before : List Entry) (e : Entry) (behind : List Entry) → plan i ≡ before ++ (e ∷ behind)
     → (c : Columns) → length e.lookup.glyphs ≤ length c.glyphs → length e.lookup.substitutes ≤ length c.substitutes
     → (a : Answer) (list : Columns) → Reading (cut_out (length before) r left) c a list
-    → (read_number a ≡ 0) × (lookup_said a list ≡ e.lookup) × (get_or (plan_said r).masks (length before) 0 ≡ e.mask)
+    → (said a ≡ 0) × (lookup_said a list ≡ e.lookup) × (get_or (plan_said r).masks (length before) 0 ≡ e.mask)
 
 -- 1,024 rules of three glyphs
 abbrev pub most_glyphs : ℕ
@@ -75,4 +74,4 @@ EveryPlaceReads =
     (i : Inputs) (area : List ℕ) (r : PlanAnswer) (left : List ℕ) → Planning i area r left → said r ≡ 0
     → (k : ℕ) → k < (plan_said r).count → (c : Columns) → most_glyphs ≤ length c.glyphs → rule_limit ≤ length c.substitutes
     → (a : Answer) (list : Columns) → Reading (cut_out k r left) c a list
-    → (read_number a ≡ 0) × ((o : Origin) × Memᴰ o (origins i) × From o (record { mask = get_or (plan_said r).masks k 0; lookup = lookup_said a list }))
+    → (said a ≡ 0) × ((o : Origin) × Memᴰ o (origins i) × From o (record { mask = get_or (plan_said r).masks k 0; lookup = lookup_said a list }))

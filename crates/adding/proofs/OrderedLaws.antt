@@ -15,10 +15,12 @@ use Rattle.ordering.proofs.KeyLaws.{Each, each_on}
 use Rattle.ordering.proofs.OrderLaws.{sorted-map, each-sorted, length-sorted}
 use Rattle.packing.specs.Packed.{pack, unpacked}
 use Rattle.packing.proofs.PackLaws.{unpacked-pack, low-pack}
-use Rattle.synthesis.specs.Rules.{rows, kind_of, usable, ruled}
+use Rattle.synthesis.specs.Rules.{kind_of, usable, ruled}
 use Rattle.synthesis.specs.Made.{Collected}
 use Rattle.synthesis.proofs.RuledLaws.{Passing, length-rows, ruled-few, ruled-usable, ruled-wide}
-use Rattle.adding.specs.Source.{Source, Lent, rules_of}
+use Rattle.synthesis.specs.declared.Rows.{Rows}
+use Rattle.synthesis.specs.Lent.{rows_lent}
+use Rattle.adding.specs.Source.{rules_of}
 
 -- a rule of n components, all its numbers of 16 bits
 abbrev pub Good : ℕ → Rule → Type 0
@@ -33,26 +35,26 @@ pub unpacked-all : (n : ℕ) (rs : List Rule) → Each (Good n) rs → map (unpa
 unpacked-all n [] g = refl
 unpacked-all n (r ∷ rs) g = ap₂ (λ (x : Rule) (l : List Rule). x ∷ l) (unpacked-pack n r g.0.0 g.0.1) (unpacked-all n rs g.1)
 
-module _ (f : Font) (s : Source) (p : Lent s) where
+module _ (f : Font) (s : Rows) where
   -- the rules in the order of their rows
   abbrev found : List Rule
-  found = ruled f (kind_of s.n) (rows s.count s.n s.each s.k s.components s.ligatures)
+  found = ruled f (kind_of s.n) (rows_lent s)
 
   good-rules : Each (Good s.n) found
-  good-rules = good-each s.n found (ruled-wide f (kind_of s.n) s.count s.n s.each s.k s.components s.ligatures p.wide) (ruled-usable f (kind_of s.n) _)
+  good-rules = good-each s.n found (ruled-wide f (kind_of s.n) s.count s.n s.each s.k s.components.now s.ligatures.now s.wide) (ruled-usable f (kind_of s.n) _)
 
   pub good-order : Each (Good s.n) (rules_of f s)
   good-order = each-sorted first (Good s.n) found good-rules
 
   pub few-rules : length found ≤ s.count
-  few-rules = omega (arith, ruled-few f (kind_of s.n) (rows s.count s.n s.each s.k s.components s.ligatures), length-rows s.count s.n s.each s.k s.components s.ligatures)
+  few-rules = omega (arith, ruled-few f (kind_of s.n) (rows_lent s), length-rows s.count s.n s.each s.k s.components.now s.ligatures.now)
 
   pub few-order : length (rules_of f s) ≤ s.count
   few-order = omega (arith, few-rules, length-sorted first found)
 
   order-packed : sorted low (map pack found) ≡ map pack (rules_of f s)
   unfolding low
-  order-packed = sorted-map pack low first found (each_on (λ r g. low-pack r (omega (arith, p.low, g.0)) g.1) found good-rules)
+  order-packed = sorted-map pack low first found (each_on (λ r g. low-pack r (omega (arith, s.low, g.0)) g.1) found good-rules)
 
   -- the numbers collected, and then put into order where they stand
   pub ordered_collected :

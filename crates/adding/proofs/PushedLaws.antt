@@ -1,4 +1,4 @@
--- Rules that are one number each, laid out and added: the kind by how many glyphs a rule replaces (`kind-known`, `kind-width`); the fronts of the two columns that were filled (`first_column`, `second_column`) are those of a lookup that can be added (`columns-fit`), and the lookup is that of the rules (`columns-added`). The entry of rows, where there is a rule and where there is none (`rows-added`, `none_left`), as in a font without codes (`none-without-codes`).
+-- Rules that are one number each, laid out and added: the kind by how many glyphs a rule replaces (`kind-known`, `kind-width`); the fronts of the two columns that were filled (`first_column`, `second_column`) are those of a lookup (`column-known`, `column-even`, `column-few`), and the lookup is that of the rules (`columns-added`). The entry of rows, where there is a rule and where there is none (`rows-added`, `none_left`), as in a font without codes (`none-without-codes`).
 -- Assumes nothing.
 use mathlib.Core.Path.{◌≡◌, refl, sym, ap, ◌∙◌}
 use mathlib.Core.Bool.{true}
@@ -17,14 +17,16 @@ use Rattle.layouts.proofs.FlatLaws.{length-flat}
 use Rattle.packing.proofs.PackLaws.{wide-unpacked}
 use Rattle.ordering.specs.Order.{sorted}
 use Rattle.fonts.specs.Font.{Font, font_of}
-use Rattle.synthesis.specs.Rules.{rows, kind_of, in_order}
+use Rattle.synthesis.specs.Rules.{kind_of, in_order}
 use Rattle.synthesis.specs.Made.{Collected}
 use Rattle.synthesis.proofs.RuledLaws.{ruled_no_codes}
 use Rattle.drafts.specs.declared.Draft.{Draft}
 use Rattle.drafts.specs.Entries.{most}
-use Rattle.drafts.specs.Drafted.{Fit, Added}
+use Rattle.drafts.specs.Drafted.{Added}
 use Rattle.drafts.proofs.DraftLaws.{none-added}
-use Rattle.adding.specs.Source.{Source, Lent, rules_of, entry_of, Roomy}
+use Rattle.synthesis.specs.declared.Rows.{Rows}
+use Rattle.synthesis.specs.Lent.{rows_lent}
+use Rattle.adding.specs.Source.{rules_of, entry_of}
 use Rattle.adding.proofs.OrderedLaws.{good-order, unpacked-all}
 
 -- ---- the kind
@@ -63,26 +65,24 @@ module _ (n : ℕ) (xs : List ℕ) where
     pub within : length xs * n ≤ 3072
     within = omega (arith, mul-le-mul_right n few)
 
-    module _ (kind : Kind) (k : kind ≡ kind_of n) (gs ss : List ℕ) (g : gs ≡ flat held) (s : ss ≡ ligatures held) (d : Draft) (scratch : List ℕ) where
-      pub columns-fit : Roomy (kind_of n) d scratch → Fit kind gs ss d scratch
-      columns-fit p =
-          rw (k, g, s)
-          (record {
-            place = p.place;
-            room = p.room;
-            bounded = p.bounded;
-            named = kind-known n low high;
-            even = length-held ∙ rw (kind-width n low high, length-ligatures);
-            few = omega (arith, length-ligatures);
-          })
+    module _ (kind : Kind) (k : kind ≡ kind_of n) (gs ss : List ℕ) (g : gs ≡ flat held) (s : ss ≡ ligatures held) where
+      pub column-known : known kind ≡ true
+      column-known = rw k (kind-known n low high)
+
+      pub column-even : length gs ≡ length ss * width kind
+      column-even = rw (k, g, s) (length-held ∙ rw (kind-width n low high, length-ligatures))
+
+      pub column-few : length ss ≤ 1024
+      column-few = omega (arith, ap length s, length-ligatures)
 
       pub columns-added :
-          (mask flags : ℕ) (d' : Draft) (scratch' : List ℕ) → Added (record { mask = mask; lookup = lookup_of flags kind gs ss } ∷ []) (most kind) d scratch d' scratch'
+          (d : Draft) (scratch : List ℕ) (mask flags : ℕ) (d' : Draft) (scratch' : List ℕ)
+          → Added (record { mask = mask; lookup = lookup_of flags kind gs ss } ∷ []) (most kind) d scratch d' scratch'
           → Added (record { mask = mask; lookup = listed flags (kind_of n) held } ∷ []) (most (kind_of n)) d scratch d' scratch'
-      columns-added mask flags d' scratch' a = rw (← k, ← g, ← s) a
+      columns-added d scratch mask flags d' scratch' a = rw (← k, ← g, ← s) a
 
 -- ---- the entry of rows
-module _ (f : Font) (s : Source) (p : Lent s) (column after : List ℕ) (made : ℕ) (c : Collected (rules_of f s) column made after) (mask flags : ℕ) (d : Draft) (scratch : List ℕ) where
+module _ (f : Font) (s : Rows) (column after : List ℕ) (made : ℕ) (c : Collected (rules_of f s) column made after) (mask flags : ℕ) (d : Draft) (scratch : List ℕ) where
   pub none_left : made ≡ 0 → Added (entry_of mask flags (kind_of s.n) (rules_of f s)) (most (kind_of s.n)) d scratch d scratch
   none_left e = rw (eq-eqb (length (rules_of f s)) 0 (sym c.counted ∙ e)) (none-added (most (kind_of s.n)) d scratch)
 
@@ -94,15 +94,15 @@ module _ (f : Font) (s : Source) (p : Lent s) (column after : List ℕ) (made : 
       → Added (record { mask = mask; lookup = listed flags (kind_of s.n) (map (unpacked s.n) (take made after)) } ∷ []) (most (kind_of s.n)) d scratch d' scratch'
       → Added (entry_of mask flags (kind_of s.n) (rules_of f s)) (most (kind_of s.n)) d scratch d' scratch'
   rows-added h d' scratch' a =
-      let same : map (unpacked s.n) (take made after) ≡ rules_of f s = ap (map (unpacked s.n)) front-rules ∙ unpacked-all s.n (rules_of f s) (good-order f s p) in
+      let same : map (unpacked s.n) (take made after) ≡ rules_of f s = ap (map (unpacked s.n)) front-rules ∙ unpacked-all s.n (rules_of f s) (good-order f s) in
       rw (ne_eqb (length (rules_of f s)) 0 (λ z. h (c.counted ∙ z)), ← same) a
 
 -- a font without codes
 pub none-without-codes :
-    (codes glyphs : List ℕ) → length codes ≡ 0 → (s : Source) (mask flags : ℕ) (d : Draft) (scratch : List ℕ)
+    (codes glyphs : List ℕ) → length codes ≡ 0 → (s : Rows) (mask flags : ℕ) (d : Draft) (scratch : List ℕ)
     → Added (entry_of mask flags (kind_of s.n) (rules_of (font_of codes glyphs) s)) (most (kind_of s.n)) d scratch d scratch
 unfolding sorted
 none-without-codes codes glyphs e s mask flags d scratch =
     let none : rules_of (font_of codes glyphs) s ≡ [] =
-    ap in_order (ruled_no_codes codes glyphs e (kind_of s.n) (rows s.count s.n s.each s.k s.components s.ligatures)) in
+    ap in_order (ruled_no_codes codes glyphs e (kind_of s.n) (rows_lent s)) in
     rw none (none-added (most (kind_of s.n)) d scratch)

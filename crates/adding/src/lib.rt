@@ -3,39 +3,25 @@
 
 ghost use Rattle.std.specs.Prelude.{◌≡◌, [], ◌∷◌, map, ◌*◌, ◌≤◌, length};
 ghost use Rattle.layouts.specs.Lookups.{listed};
-ghost use Rattle.fonts.specs.Font.{font_now, font_lent, Sound};
+ghost use Rattle.fonts.specs.Lent.{font_lent};
 ghost use Rattle.packing.specs.Packed.{unpacked};
 ghost use Rattle.synthesis.specs.Rules.{kind_of};
 ghost use Rattle.synthesis.specs.Made.{Collected};
 ghost use Rattle.drafts.specs.Entries.{entry, rule_limit, most};
-ghost use Rattle.drafts.specs.Drafted.{Added};
-ghost use Rattle.adding.specs.Source.{source_now, source_lent, Lent, rules_of, entry_of, Roomy};
+ghost use Rattle.drafts.specs.Drafted.{Roomy, Added};
+ghost use Rattle.adding.specs.Source.{rules_of, entry_of};
 
-use drafts::Draft;
+use drafts::{Columns, Draft, RULE_LIMIT};
+use fonts::Font;
 use layouts::Kind;
-
-// Rules of a lookup, at most.
-const RULE_LIMIT: usize = 1024;
+use synthesis::Rows;
 
 // The rules of rows in order, from the start of `rules` on; how many they are.
-fn order_rules(
-    codes: &[u32],
-    glyphs: &[u32],
-    count: usize,
-    n: usize,
-    each: usize,
-    k: usize,
-    components: &[u16],
-    ligatures: &[u16],
-    rules: &mut [u64],
-) -> usize
-    requires { Sound (font_now codes glyphs) × Lent (source_now count n each k components ligatures) × (count ≤ length rules.old) }
-    ensures { let ordered = rules_of (font_lent codes glyphs) (source_lent count n each k components ligatures) in
-        Collected ordered rules.old result rules.new }
+fn order_rules(font: Font, rows: Rows, rules: &mut [u64]) -> usize
+    requires { (rows.count ≤ rule_limit) × (rows.count ≤ length rules.old) }
+    ensures { Collected (rules_of (font_lent font.entry) rows.entry) rules.old result rules.new }
 {
-    let made = synthesis::collect(
-        codes, glyphs, count, n, each, k, components, ligatures, rules,
-    );
+    let made = rows.collect(font, rules);
     ordering::sort(&mut rules[..made]);
     made
 }
@@ -68,15 +54,13 @@ fn push_in(
     packing::unpack(n, rules, firsts, seconds);
     let made = rules.len();
     let wide = made * n;
-    drafts::push(
-        draft,
-        mask,
-        kind_of(n),
+    let columns = Columns {
+        kind: kind_of(n),
         flags,
-        &firsts[..wide],
-        &seconds[..made],
-        scratch,
-    )
+        glyphs: &firsts[..wide],
+        substitutes: &seconds[..made],
+    };
+    draft.push(mask, columns, scratch)
 }
 
 // The same in columns of its own: they are made only where there is a rule.
@@ -110,28 +94,20 @@ fn synthesize_in(
     draft: Draft,
     mask: u32,
     flags: u16,
-    codes: &[u32],
-    glyphs: &[u32],
-    count: usize,
-    n: usize,
-    each: usize,
-    k: usize,
-    components: &[u16],
-    ligatures: &[u16],
+    font: Font,
+    rows: Rows,
     rules: &mut [u64],
     scratch: &mut [u8],
 ) -> Draft
-    requires { Sound (font_now codes glyphs) × Lent (source_now count n each k components ligatures) × Roomy (kind_of n) draft scratch.old × (length rules.old ≡ rule_limit) }
-    ensures { let ordered = rules_of (font_lent codes glyphs) (source_lent count n each k components ligatures) in
-        Added (entry_of mask flags (kind_of n) ordered) (most (kind_of n)) draft scratch.old result scratch.new }
+    requires { (rows.count ≤ rule_limit) × Roomy (kind_of rows.n) draft scratch.old × (length rules.old ≡ rule_limit) }
+    ensures { let ordered = rules_of (font_lent font.entry) rows.entry in
+        Added (entry_of mask flags (kind_of rows.entry.n) ordered) (most (kind_of rows.entry.n)) draft scratch.old result scratch.new }
 {
-    let made = order_rules(
-        codes, glyphs, count, n, each, k, components, ligatures, rules,
-    );
+    let made = order_rules(font, rows, rules);
     if made == 0 {
         return draft;
     }
-    push_rules(draft, mask, flags, n, &rules[..made], scratch)
+    push_rules(draft, mask, flags, rows.n, &rules[..made], scratch)
 }
 
 // Adds the lookup of rows, unless it has no mask or no rule is left. A font without codes leaves none, and no memory is made for them.
@@ -139,29 +115,20 @@ pub fn synthesize_lookup(
     draft: Draft,
     mask: u32,
     flags: u16,
-    codes: &[u32],
-    glyphs: &[u32],
-    count: usize,
-    n: usize,
-    each: usize,
-    k: usize,
-    components: &[u16],
-    ligatures: &[u16],
+    font: Font,
+    rows: Rows,
     scratch: &mut [u8],
 ) -> Draft
-    requires { Sound (font_now codes glyphs) × Lent (source_now count n each k components ligatures) × Roomy (kind_of n) draft scratch.old }
-    ensures { let ordered = rules_of (font_lent codes glyphs) (source_lent count n each k components ligatures) in
-        Added (entry mask flags (kind_of n) ordered) (most (kind_of n)) draft scratch.old result scratch.new }
+    requires { (rows.count ≤ rule_limit) × Roomy (kind_of rows.n) draft scratch.old }
+    ensures { let ordered = rules_of (font_lent font.entry) rows.entry in
+        Added (entry mask flags (kind_of rows.entry.n) ordered) (most (kind_of rows.entry.n)) draft scratch.old result scratch.new }
 {
     if mask == 0 {
         return draft;
     }
-    if codes.len() == 0 {
+    if font.codes.is_empty() {
         return draft;
     }
     let mut rules = [0u64; RULE_LIMIT];
-    synthesize_in(
-        draft, mask, flags, codes, glyphs, count, n, each, k, components, ligatures, &mut rules,
-        scratch,
-    )
+    synthesize_in(draft, mask, flags, font, rows, &mut rules, scratch)
 }

@@ -13,9 +13,8 @@ use Rattle.fonts.specs.Font.{Sound}
 use Rattle.ordering.proofs.KeyLaws.{Each}
 use Rattle.drafts.specs.Entries.{Entry}
 use Rattle.windows.specs.Windows.{direct}
-use Rattle.fallback.specs.declared.FallbackPlan.{FallbackPlan}
 use Rattle.fallback.specs.Plan.{Inputs, unicode, plan}
-use Rattle.fallback.specs.Planned.{flat_by, Planning}
+use Rattle.fallback.specs.Planned.{PlanAnswer, flat_by, Planning}
 use Rattle.assurance.specs.Planning.{Says}
 use Rattle.assurance.specs.ByRows.{seven_lists, OfRows, OfLists, AsTheRows, EveryPlaceHasRows, WindowsWithoutRows}
 use Rattle.assurance.proofs.OriginLaws.{unicode-kept}
@@ -44,7 +43,7 @@ module _ (i : Inputs) (room : ℕ) (p : Passed i room) where
   unicode-lists : OfLists i.font (seven_lists i) (unicode i)
   unicode-lists = subst (OfLists i.font (seven_lists i)) (sym (unicode-kept i)) (of-lists i.font sound (seven_lists i) all-long)
 
-module _ (i : Inputs) (area : List ℕ) (r : FallbackPlan) (left : List ℕ) (x : Planning i area r left) (z : said r.verdict ≡ 0) where
+module _ (i : Inputs) (area : List ℕ) (r : PlanAnswer) (left : List ℕ) (x : Planning i area r left) (z : said r ≡ 0) where
   lists : OfLists i.font (seven_lists i) (unicode i)
   lists = unicode-lists i (length area) (not_refused i area r left x z)
 

@@ -16,19 +16,17 @@ use Rattle.refusals.proofs.LeftLaws.{left-done}
 use Rattle.words.specs.Words.{bytes}
 use Rattle.words.proofs.WordLaws.{length-bytes}
 use Rattle.layouts.specs.declared.Kind.TheVariants.{Single}
-use Rattle.layouts.specs.declared.Written.TheVariants.{Bytes}
+use Rattle.std.specs.Prelude.{Ok}
 use Rattle.layouts.specs.Tables.{first}
 use Rattle.layouts.specs.Lookups.{Lookup, lookup_of, words_of}
 use Rattle.layouts.specs.Written.{write_outcome, write_refusal, Writing}
 use Rattle.layouts.proofs.WrittenLaws.{none-given}
 use Rattle.scanning.specs.Exact.{as_read, Readable}
-use Rattle.reading.specs.declared.Answer.{Answer}
-use Rattle.reading.specs.Read.{Columns, read_number, Reading}
+use Rattle.reading.specs.Read.{Columns, Answer, Reading}
 use Rattle.ordering.proofs.OrderLaws.{stable_once}
 use Rattle.drafts.specs.Entries.{Entry, bytes_of, size_of, all_bytes, masks_of, lengths_of, rule_limit}
-use Rattle.fallback.specs.declared.FallbackPlan.{FallbackPlan}
 use Rattle.fallback.specs.Plan.{Inputs, plan}
-use Rattle.fallback.specs.Planned.{even, short, plan_refusal, Planning}
+use Rattle.fallback.specs.Planned.{PlanAnswer, plan_said, even, short, plan_refusal, Planning}
 use Rattle.fidelity.specs.Reading.{lookup_said}
 use Rattle.fidelity.proofs.ReadingHolds.{reads-back}
 use Rattle.assurance.specs.Origins.{origins, rules_of, From}
@@ -44,15 +42,15 @@ module _ (l : Lookup) (q : Readable l) where
   -- its bytes are read
   reads_bytes :
       (c : Columns) → length l.glyphs ≤ length c.glyphs → length l.substitutes ≤ length c.substitutes
-      → (a : Answer) (list : Columns) → Reading (bytes (words_of l)) c a list → (read_number a ≡ 0) × (lookup_said a list ≡ as_read l)
+      → (a : Answer) (list : Columns) → Reading (bytes (words_of l)) c a list → (said a ≡ 0) × (lookup_said a list ≡ as_read l)
   reads_bytes c g s a list y =
       let b : List ℕ = bytes (words_of l) in
       let size : ℕ = 2 * length (words_of l) in
-      let asked : Writing l b (Bytes size) (b ++ drop size b) =
+      let asked : Writing l b (Ok size) (b ++ drop size b) =
       left-done (write_refusal l (length b)) (write_outcome 0 b) _ 0 _ (sym (unrefused (length b) (omega (arith, length-bytes (words_of l))))) refl refl
       in
       let front : take size (b ++ drop size b) ≡ b = take_at b (drop size b) size (length-bytes (words_of l)) in
-      reads-back l b (Bytes size) (b ++ drop size b) asked refl q.up c g s a list (rw front y)
+      reads-back l b (Ok size) (b ++ drop size b) asked refl q.up c g s a list (rw front y)
 
 -- no row has the number 5
 never-given : (i : Inputs) (room : ℕ) → plan_refusal i room ≡ 5 → ⊥
@@ -66,8 +64,8 @@ never-given i room e = go (not (even i)) (not (short i)) (not (rising 1 i.font.c
     go false false false true e = omega arith
     go false false false false e = omega arith
 
-module _ (i : Inputs) (area : List ℕ) (r : FallbackPlan) (left : List ℕ) (x : Planning i area r left) where
-  module _ (z : said r.verdict ≡ 0) (before : List Entry) (e : Entry) (behind : List Entry) (s : plan i ≡ before ++ (e ∷ behind)) where
+module _ (i : Inputs) (area : List ℕ) (r : PlanAnswer) (left : List ℕ) (x : Planning i area r left) where
+  module _ (z : said r ≡ 0) (before : List Entry) (e : Entry) (behind : List Entry) (s : plan i ≡ before ++ (e ∷ behind)) where
     good : Good (origins i) e
     good = plan-good i (length area) (not_refused i area r left x z) before e behind s
 
@@ -78,16 +76,16 @@ module _ (i : Inputs) (area : List ℕ) (r : FallbackPlan) (left : List ℕ) (x 
 
     cut : cut_out (length before) r left ≡ bytes_of e
     cut =
-        bytes-at before e behind r.lengths left (drop (length (all_bytes (plan i))) area) ((plans i area r left x z).measured ∙ ap lengths_of s)
+        bytes-at before e behind (plan_said r).lengths left (drop (length (all_bytes (plan i))) area) ((plans i area r left x z).measured ∙ ap lengths_of s)
         (area-left i area r left x z ∙ ap (λ (es : List Entry). all_bytes es ++ drop (length (all_bytes (plan i))) area) s)
 
-    mask : get_or r.masks (length before) 0 ≡ e.mask
+    mask : get_or (plan_said r).masks (length before) 0 ≡ e.mask
     mask = ap (λ (l : List ℕ). get_or l (length before) 0) ((plans i area r left x z).masked ∙ ap masks_of s) ∙ number_at before e behind (λ d. d.mask)
 
     read :
         (c : Columns) → length e.lookup.glyphs ≤ length c.glyphs → length e.lookup.substitutes ≤ length c.substitutes
         → (a : Answer) (list : Columns) → Reading (cut_out (length before) r left) c a list
-        → (read_number a ≡ 0) × (lookup_said a list ≡ e.lookup) × (get_or r.masks (length before) 0 ≡ e.mask)
+        → (said a ≡ 0) × (lookup_said a list ≡ e.lookup) × (get_or (plan_said r).masks (length before) 0 ≡ e.mask)
     read c g t a list y =
         let back = reads_bytes e.lookup good.readable c g t a list (rw (← cut) y) in
         (back.0, back.1 ∙ good.same, mask)
@@ -138,7 +136,7 @@ none = record { mask = 0; lookup = lookup_of 0 Single [] [] }
 parted : (es : List Entry) (k : ℕ) → k < length es → es ≡ take k es ++ (get_or es k none ∷ drop (k + 1) es)
 parted es k h = sym (take-append-drop k es) ∙ ap (λ (l : List Entry). take k es ++ l) (drop-next es k none h)
 
-module _ (i : Inputs) (area : List ℕ) (r : FallbackPlan) (left : List ℕ) (x : Planning i area r left) (z : said r.verdict ≡ 0) (k : ℕ) (h : k < r.count) where
+module _ (i : Inputs) (area : List ℕ) (r : PlanAnswer) (left : List ℕ) (x : Planning i area r left) (z : said r ≡ 0) (k : ℕ) (h : k < (plan_said r).count) where
   pub place_inside : k < length (plan i)
   place_inside = omega (arith, (plans i area r left x z).counted)
 
@@ -148,12 +146,12 @@ module _ (i : Inputs) (area : List ℕ) (r : FallbackPlan) (left : List ℕ) (x 
   -- what is read there is the entry of that place
   pub place_read :
       (c : Columns) → most_glyphs ≤ length c.glyphs → rule_limit ≤ length c.substitutes → (a : Answer) (list : Columns) → Reading (cut_out k r left) c a list
-      → (read_number a ≡ 0) × (get_or (plan i) k none ≡ record { mask = get_or r.masks k 0; lookup = lookup_said a list })
+      → (said a ≡ 0) × (get_or (plan i) k none ≡ record { mask = get_or (plan_said r).masks k 0; lookup = lookup_said a list })
   place_read c g t a list y =
       let es : List Entry = plan i in
       let place : length (take k es) ≡ k = length-take-le k es (omega (arith, place_inside)) in
       let back = read i area r left x z (take k es) (get_or es k none) (drop (k + 1) es) (parted es k place_inside) c (omega (arith, place-good.glyphs)) (omega (arith, place-good.substitutes)) a list (rw place y) in
-      let answered : get_or r.masks k 0 ≡ (get_or es k none).mask = ap (λ (n : ℕ). get_or r.masks n 0) (sym place) ∙ back.2 in
+      let answered : get_or (plan_said r).masks k 0 ≡ (get_or es k none).mask = ap (λ (n : ℕ). get_or (plan_said r).masks n 0) (sym place) ∙ back.2 in
       (back.0, ap₂ (λ (m : ℕ) (l : Lookup). record { mask = m; lookup = l }) (sym answered) (sym back.1))
 
 pub every-place-reads : EveryPlaceReads

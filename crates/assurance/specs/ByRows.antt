@@ -10,11 +10,9 @@ use Rattle.layouts.specs.Lookups.{Lookup, width}
 use Rattle.fonts.specs.Font.{Font}
 use Rattle.drafts.specs.Entries.{Entry, rule_limit}
 use Rattle.windows.specs.Windows.{direct}
-use Rattle.fallback.specs.declared.FallbackPlan.{FallbackPlan}
 use Rattle.fallback.specs.Plan.{Ligatures, Inputs}
-use Rattle.fallback.specs.Planned.{Planning}
-use Rattle.reading.specs.declared.Answer.{Answer}
-use Rattle.reading.specs.Read.{Columns, read_number, Reading}
+use Rattle.fallback.specs.Planned.{PlanAnswer, plan_said, Planning}
+use Rattle.reading.specs.Read.{Columns, Answer, Reading}
 use Rattle.fidelity.specs.Reading.{lookup_said}
 use Rattle.assurance.specs.Planning.{Says}
 use Rattle.assurance.specs.Lookups.{cut_out, most_glyphs}
@@ -102,22 +100,22 @@ pub data OfLists (f : Font) : List Lent → List Entry → Type 0 where
 -- Where one of the seven lists is used, an accepted call answers entries of the seven lists: a lookup of each that is used, and no other; in it each row that gives a rule once, and no other rule.
 abbrev pub AsTheRows : Type 0
 AsTheRows =
-    (i : Inputs) (area : List ℕ) (r : FallbackPlan) (left : List ℕ) → Planning i area r left → said r.verdict ≡ 0
+    (i : Inputs) (area : List ℕ) (r : PlanAnswer) (left : List ℕ) → Planning i area r left → said r ≡ 0
     → (l : Lent) → Memᴰ l (seven_lists i) → Used i.font l
     → (es : List Entry) × Says es r left × OfLists i.font (seven_lists i) es
 
 -- So whoever has only the answer and the area, and columns for any list, reads at each place below the count the rules of one of the lists that are used, under the mask answered there.
 abbrev pub EveryPlaceHasRows : Type 0
 EveryPlaceHasRows =
-    (i : Inputs) (area : List ℕ) (r : FallbackPlan) (left : List ℕ) → Planning i area r left → said r.verdict ≡ 0
+    (i : Inputs) (area : List ℕ) (r : PlanAnswer) (left : List ℕ) → Planning i area r left → said r ≡ 0
     → (l : Lent) → Memᴰ l (seven_lists i) → Used i.font l
-    → (k : ℕ) → k < r.count → (c : Columns) → most_glyphs ≤ length c.glyphs → rule_limit ≤ length c.substitutes
+    → (k : ℕ) → k < (plan_said r).count → (c : Columns) → most_glyphs ≤ length c.glyphs → rule_limit ≤ length c.substitutes
     → (a : Answer) (list : Columns) → Reading (cut_out k r left) c a list
-    → (read_number a ≡ 0)
-    × ((m : Lent) × Memᴰ m (seven_lists i) × Used i.font m × OfRows i.font m (record { mask = get_or r.masks k 0; lookup = lookup_said a list }))
+    → (said a ≡ 0)
+    × ((m : Lent) × Memᴰ m (seven_lists i) × Used i.font m × OfRows i.font m (record { mask = get_or (plan_said r).masks k 0; lookup = lookup_said a list }))
 
 -- Where none of the seven is used, it answers what is planned for a Windows-1256 font if it is one, and else nothing.
 abbrev pub WindowsWithoutRows : Type 0
 WindowsWithoutRows =
-    (i : Inputs) (area : List ℕ) (r : FallbackPlan) (left : List ℕ) → Planning i area r left → said r.verdict ≡ 0
+    (i : Inputs) (area : List ℕ) (r : PlanAnswer) (left : List ℕ) → Planning i area r left → said r ≡ 0
     → ((l : Lent) → Memᴰ l (seven_lists i) → Used i.font l → ⊥) → Says (direct i.masks i.font) r left

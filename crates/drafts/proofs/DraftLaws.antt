@@ -1,7 +1,7 @@
--- Drafts: one without entries (`begun-drafted`); a lookup that is written behind the others is an entry more (`written-part`, `pushed`); nothing added (`none-added`); where the bytes of a draft end (`drafted-inside`). How far a plan has come, which is made of several lookups (`reached-begin`, `reached-more`), and what is asked of the next (`reached-fit`); the entry of rules that are listed in two columns (`rules-added`).
+-- Drafts: one without entries (`begun-drafted`); a lookup that is written behind the others is an entry more (`written-part`, `pushed`); nothing added (`none-added`); where the bytes of a draft end (`drafted-inside`). How far a plan has come, which is made of several lookups (`reached-begin`, `reached-more`), and what is asked of the next (`reached-room`); the entry of rules that are listed in two columns (`rules-added`).
 -- Assumes nothing.
 use mathlib.Core.Path.{◌≡◌, refl, sym, ap, ◌∙◌}
-use mathlib.Core.Bool.{true, cond, or-false}
+use mathlib.Core.Bool.{cond, or-false}
 use mathlib.Core.List.{List, [], ◌∷◌, ◌++◌, append_assoc, append-nil}
 use Prim.Native.Nat.{ℕ, ◌+◌, ◌*◌, ◌-◌, ◌<◌, ◌≤◌}
 use native.Mathlib.Omega.{arith}
@@ -14,13 +14,13 @@ use Rattle.refusals.proofs.LeftLaws.{left-number, left-accepted}
 use Rattle.words.specs.Words.{bytes}
 use Rattle.words.proofs.WordLaws.{length-bytes}
 use Rattle.layouts.specs.declared.Kind.{Kind}
-use Rattle.layouts.specs.declared.Written.{Written}
+use Rattle.refusals.specs.Numbers.{said}
 use Rattle.layouts.specs.Tables.{Rule}
-use Rattle.layouts.specs.Lookups.{Lookup, lookup_of, width, known, flat, ligatures, words_of}
-use Rattle.layouts.specs.Written.{WriteOutcome, write_outcome, write_refusal, write_number, length_said, Writing}
+use Rattle.layouts.specs.Lookups.{Lookup, lookup_of, flat, ligatures, words_of}
+use Rattle.layouts.specs.Written.{WriteOutcome, write_outcome, write_refusal, Written, length_said, Writing}
 use Rattle.drafts.specs.declared.Draft.{Draft}
-use Rattle.drafts.specs.Entries.{Entry, entry, size_of, bytes_of, all_bytes, rule_limit, most}
-use Rattle.drafts.specs.Drafted.{begun, noted, Drafted, Reached, Fit, Added}
+use Rattle.drafts.specs.Entries.{Entry, entry, size_of, bytes_of, all_bytes, most}
+use Rattle.drafts.specs.Drafted.{begun, noted, Drafted, Reached, Roomy, Added}
 use Rattle.drafts.proofs.EntryLaws.{all_more, pad_more}
 
 pub begun-drafted : (scratch : List ℕ) → Drafted [] begun scratch
@@ -48,7 +48,7 @@ module _ (l : Lookup) (a : ℕ) (scratch : List ℕ) (h : a ≤ length scratch) 
     passed = ap (write_refusal l) length-lent ∙ free
 
     all-written : write_outcome (length_said r) part ≡ write_outcome (2 * length (words_of l)) (bytes (words_of l) ++ drop (2 * length (words_of l)) lent)
-    all-written = left-accepted (write_refusal l (length lent)) _ _ (write_number r) _ w (left-number (write_refusal l (length lent)) _ _ (write_number r) _ w ∙ passed)
+    all-written = left-accepted (write_refusal l (length lent)) _ _ (said r) _ w (left-number (write_refusal l (length lent)) _ _ (said r) _ w ∙ passed)
 
     pub length-written : length_said r ≡ length (bytes (words_of l))
     length-written = ap (λ (o : WriteOutcome). o.count) all-written ∙ sym (length-bytes (words_of l))
@@ -105,11 +105,8 @@ module _ {entries : List Entry} {count b size : ℕ} {d : Draft} {scratch : List
       → Reached (entries ++ new) (count + 1) (b + bound) size d' scratch'
   reached-more a e = record { few = omega (arith, p.few, a.few); short = omega (arith, p.short, a.short); sized = e ∙ p.sized; drafted = a.then entries p.drafted }
 
-  pub reached-fit :
-      count < 7 → (kind : Kind) → b + most kind ≤ size → size < 4294967296 → known kind ≡ true
-      → (glyphs substitutes : List ℕ) → length glyphs ≡ length substitutes * width kind → length substitutes ≤ rule_limit → Fit kind glyphs substitutes d scratch
-  reached-fit c kind h s k glyphs substitutes e f =
-      record { place = omega (arith, p.few); room = omega (arith, p.short, p.sized); bounded = omega (arith, p.sized); named = k; even = e; few = f }
+  pub reached-room : count < 7 → (kind : Kind) → b + most kind ≤ size → size < 4294967296 → Roomy kind d scratch
+  reached-room c kind h s = record { place = omega (arith, p.few); room = omega (arith, p.short, p.sized); bounded = omega (arith, p.sized) }
 
 -- "zero masks skipped": where there are rules, only the mask decides
 pub rules-added :

@@ -1,4 +1,4 @@
--- A lookup of at most 1,024 rules: it has at most so many bytes (`few-short`), and where there is room for them its writer does not refuse it (`few-allowed`). Both of a lookup that is to be added to a draft (`Bounds`, `fit-bounds`).
+-- A lookup of at most 1,024 rules: it has at most so many bytes (`few-short`), and where there is room for them its writer does not refuse it (`few-allowed`). Both of a lookup that is to be added to a draft (`Bounds`, `columns-bounds`).
 -- Assumes nothing.
 use mathlib.Core.Path.{◌≡◌, ◌∙◌}
 use mathlib.Core.Bool.{true}
@@ -8,19 +8,20 @@ use Prim.Native.Nat.{ℕ, ◌+◌, ◌*◌, ◌-◌, ◌<◌, ◌≤◌}
 use native.Mathlib.Nat.{mul-le-mul_right, mul-one}
 use native.Mathlib.Omega.{arith}
 use borrow.Author.Tests.{le-leb}
-use lib.ListN.{length, get_or}
+use lib.ListN.{length}
 use Rattle.layouts.specs.declared.Kind.{Kind}
 use Rattle.layouts.specs.declared.Kind.TheVariants.{Single, Ligature}
 use Rattle.layouts.specs.Lookups.{Lookup, lookup_of, width, known, rules, words_of, fits}
 use Rattle.layouts.specs.Written.{write_refusal}
-use Rattle.layouts.proofs.FitLaws.{fits-lent}
 use Rattle.layouts.proofs.SetLaws.{wide-rules}
 use Rattle.layouts.proofs.SizeLaws.{length-rules, size-single, size-ligature}
 use Rattle.layouts.proofs.LimitLaws.{single-fits, regular-rules, sets-few, longest-few, last-few, ligature-within}
 use Rattle.layouts.proofs.WrittenLaws.{two-or-three, none-given}
 use Rattle.drafts.specs.declared.Draft.{Draft}
 use Rattle.drafts.specs.Entries.{rule_limit, most}
-use Rattle.drafts.specs.Drafted.{Fit}
+use Rattle.drafts.specs.declared.Columns.{Columns}
+use Rattle.drafts.specs.Drafted.{Roomy}
+use Rattle.drafts.specs.Lent.{lookup_in}
 
 -- 2 or 3 components
 between : {n : ℕ} → (n ≡ 2) ⊎ (n ≡ 3) → (2 ≤ n) × (n ≤ 3)
@@ -53,19 +54,19 @@ module _ (flags : ℕ) (f : flags < 65536) (gs ss : List ℕ) (g : fits gs ≡ t
     few-allowed room h = none-given (lookup_of flags kind gs ss) room (record { even = e; in_range = k; small = (bounds kind k e).1; enough = omega (arith, few-short) })
 
 -- a lookup that is to be added to a draft
-pub record Bounds (kind : Kind) (l : Lookup) (d : Draft) (scratch : List ℕ) : Type 0 where
+pub record Bounds (l : Lookup) (d : Draft) (scratch : List ℕ) : Type 0 where
   pub inside : d.end ≤ length scratch
-  pub short : 2 * length (words_of l) ≤ most kind
+  pub short : 2 * length (words_of l) ≤ most l.kind
   pub free : write_refusal l (length scratch - d.end) ≡ 0
 
-pub fit-bounds :
-    (flags : ℕ) → flags < 65536 → (kind : Kind) (gs ss : List ℕ) → ((i : ℕ) → get_or gs i 0 < 65536) → ((i : ℕ) → get_or ss i 0 < 65536)
-    → (d : Draft) (scratch : List ℕ) → Fit kind gs ss d scratch → Bounds kind (lookup_of flags kind gs ss) d scratch
-fit-bounds flags f kind gs ss g s d scratch p =
-    let gf = fits-lent gs g in
-    let sf = fits-lent ss s in
+pub columns-bounds :
+    (c : Columns) → c.flags < 65536 → fits c.glyphs.now ≡ true → fits c.substitutes.now ≡ true
+    → (d : Draft) (scratch : List ℕ) → Roomy c.kind d scratch → Bounds (lookup_in c) d scratch
+columns-bounds c f g s d scratch p =
+    let gs = c.glyphs.now in
+    let ss = c.substitutes.now in
     record {
       inside = omega (arith, p.room);
-      short = few-short flags f gs ss gf sf p.few kind p.named p.even;
-      free = few-allowed flags f gs ss gf sf p.few kind p.named p.even (length scratch - d.end) (omega (arith, p.room));
+      short = few-short c.flags f gs ss g s c.few c.kind c.named c.even;
+      free = few-allowed c.flags f gs ss g s c.few c.kind c.named c.even (length scratch - d.end) (omega (arith, p.room));
     }

@@ -1,10 +1,9 @@
--- A plan while it is made: `begun` a draft without entries; `noted` a draft with an entry more; `Drafted` that a draft and the bytes beside it hold certain entries; `Reached` how far a plan has come that is made of several lookups; `Fit` what is asked of a lookup that is to be added; `Added` that entries were added to whatever entries there were, with at most so many bytes.
+-- A plan while it is made: `begun` a draft without entries; `noted` a draft with an entry more; `Drafted` that a draft and the bytes beside it hold certain entries; `Reached` how far a plan has come that is made of several lookups; `Roomy` what is asked of a draft that is to have one more; `Added` that entries were added to whatever entries there were, with at most so many bytes.
 -- Assumes nothing.
-use Rattle.std.specs.Prelude.{◌≡◌, true, List, ◌++◌, ℕ, ◌+◌, ◌*◌, ◌<◌, ◌≤◌, length, take, set}
+use Rattle.std.specs.Prelude.{◌≡◌, List, ◌++◌, ℕ, ◌+◌, ◌<◌, ◌≤◌, length, take, set}
 use Rattle.layouts.specs.declared.Kind.{Kind}
-use Rattle.layouts.specs.Lookups.{width, known}
 use Rattle.drafts.specs.declared.Draft.{Draft}
-use Rattle.drafts.specs.Entries.{Entry, all_bytes, seven, masks_of, lengths_of, rule_limit, most}
+use Rattle.drafts.specs.Entries.{Entry, all_bytes, seven, masks_of, lengths_of, most}
 
 abbrev pub begun : Draft
 begun = record { count = 0; end = 0; masks = seven; lengths = seven }
@@ -28,14 +27,11 @@ pub record Reached (entries : List Entry) (count bytes size : ℕ) (d : Draft) (
   pub sized : length scratch ≡ size
   pub drafted : Drafted entries d scratch
 
--- there is a place for one more, room for any lookup of its kind, and the columns are those of a lookup of at most 1,024 rules
-pub record Fit (kind : Kind) (glyphs substitutes : List ℕ) (d : Draft) (scratch : List ℕ) : Type 0 where
+-- there is a place for one more entry, and room for any lookup of its kind
+pub record Roomy (kind : Kind) (d : Draft) (scratch : List ℕ) : Type 0 where
   pub place : d.count < 7
   pub room : d.end + most kind ≤ length scratch
   pub bounded : length scratch < 4294967296
-  pub named : known kind ≡ true
-  pub even : length glyphs ≡ length substitutes * width kind
-  pub few : length substitutes ≤ rule_limit
 
 -- whatever the draft had, it has the new entries behind it: one at most, of at most `most` bytes
 pub record Added (new : List Entry) (most : ℕ) (d : Draft) (scratch : List ℕ) (d' : Draft) (scratch' : List ℕ) : Type 0 where

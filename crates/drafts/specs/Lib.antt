@@ -3,3 +3,4 @@
 pub mod Features
 pub mod Entries
 pub mod Drafted
+pub mod Lent

@@ -1,7 +1,7 @@
--- The fallback plan (document 01: "The plan follows 001's order, zero masks skipped"): `Ligatures`, `Inputs`, `inputs_of` what is lent; `inputs_now`, `inputs_lent` the same from the parameters of a call, as a `requires` and as an `ensures` has them; `formed`, `four_forms`, `shaped`, `ligated` the entry of a form, and that of a list of ligatures; `unicode` the seven entries by Unicode's presentation forms; `plan` the entries of a plan, Windows-1256 second.
+-- The fallback plan (document 01: "The plan follows 001's order, zero masks skipped"): `Ligatures`, `Inputs`, `inputs_of` what is lent; `inputs_lent` the same from the parameters of a call; `formed`, `four_forms`, `shaped`, `ligated` the entry of a form, and that of a list of ligatures; `unicode` the seven entries by Unicode's presentation forms; `plan` the entries of a plan, Windows-1256 second.
 -- Assumes nothing.
 use Rattle.std.specs.Prelude.{cond, List, ◌++◌, ℕ, eqb, length, get_or}
-use Rattle.laws.specs.Lent.{Slice, Borrowed}
+use Rattle.laws.specs.Lent.{Borrowed}
 use Rattle.layouts.specs.declared.Kind.TheVariants.{Single, Ligature}
 use Rattle.fonts.specs.Font.{Font, font_of}
 use Rattle.synthesis.specs.Rules.{rows, ruled, in_order}
@@ -37,18 +37,12 @@ inputs_of masks codes glyphs shaping forms components3 ligatures3 components2 li
       marks = record { components = mark_components; ligatures = mark_ligatures };
     }
 
-abbrev pub inputs_now : List ℕ → Slice ℕ → Slice ℕ → Slice ℕ → Slice ℕ → Slice ℕ → Slice ℕ → Slice ℕ → Slice ℕ → Slice ℕ → Slice ℕ → Inputs
-inputs_now masks codes glyphs shaping forms components3 ligatures3 components2 ligatures2 mark_components mark_ligatures =
-    inputs_of masks codes.now glyphs.now shaping.now forms.now components3.now ligatures3.now components2.now ligatures2.now
-    mark_components.now
-    mark_ligatures.now
-
--- inputs are lent to be read, so they are the same at both moments
+-- the same of columns that a call is lent
 abbrev pub inputs_lent : List ℕ → Borrowed ℕ → Borrowed ℕ → Borrowed ℕ → Borrowed ℕ → Borrowed ℕ → Borrowed ℕ → Borrowed ℕ → Borrowed ℕ → Borrowed ℕ → Borrowed ℕ → Inputs
 inputs_lent masks codes glyphs shaping forms components3 ligatures3 components2 ligatures2 mark_components mark_ligatures =
-    inputs_now masks codes.entry glyphs.entry shaping.entry forms.entry components3.entry ligatures3.entry components2.entry ligatures2.entry
-    mark_components.entry
-    mark_ligatures.entry
+    inputs_of masks codes.entry.now glyphs.entry.now shaping.entry.now forms.entry.now components3.entry.now ligatures3.entry.now components2.entry.now ligatures2.entry.now
+    mark_components.entry.now
+    mark_ligatures.entry.now
 
 -- "A shaping row has the forms init, medi, fina, isol": the lookup of form k, under the mask at the same place
 abbrev pub formed : List ℕ → Font → List ℕ → List ℕ → ℕ → List Entry

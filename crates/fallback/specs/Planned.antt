@@ -1,12 +1,12 @@
--- The call that makes a plan: `flat_by`, `even`, `limited`, `short`, `lent_rows`, `room_row`, `plan_rows`, `plan_refusal` when it is refused, and with which number; `PlanOutcome`, `plan_outcome`, `nothing`, `made` what is there afterwards; `refused_by` the answer of a refusal; `Settled`, `Settles` the last step of it; `Passed` what is known where the tests are passed; `plan_after`, `Planning` what the call answers and leaves, of every input.
+-- The call that makes a plan: `flat_by`, `even`, `limited`, `short`, `lent_rows`, `room_row`, `plan_rows`, `plan_refusal` when it is refused, and with which number; `PlanOutcome`, `plan_outcome`, `nothing`, `made` what is there afterwards; `PlanAnswer`, `plan_said`, `outcome_said` an answer, and the plan that it says; `Settled`, `Settles` the last step of it; `plan_after`, `Planning` what the call answers and leaves, of every input.
 -- Assumes nothing.
-use Rattle.std.specs.Prelude.{◌≡◌, Bool, not, ◌&&◌, List, [], ◌∷◌, ◌++◌, ℕ, ◌*◌, eqb, leb, ltb, length, drop}
+use Rattle.std.specs.Prelude.{◌≡◌, Bool, not, ◌&&◌, List, [], ◌∷◌, ◌++◌, ℕ, ◌*◌, eqb, leb, ltb, length, drop, Result, Ok, Err}
 use Rattle.laws.specs.Rows.{Row, Given, first}
-use Rattle.refusals.specs.declared.Verdict.{Verdict}
+use Rattle.refusals.specs.declared.Refusal.{Refusal}
 use Rattle.refusals.specs.Numbers.{said}
 use Rattle.refusals.specs.Columns.{rising}
 use Rattle.refusals.specs.Left.{Left, After, leaves}
-use Rattle.drafts.specs.Entries.{Entry, all_bytes, seven, masks_of, lengths_of, rule_limit, longest_plan}
+use Rattle.drafts.specs.Entries.{Entry, all_bytes, seven, masks_of, lengths_of, rule_limit}
 use Rattle.drafts.specs.declared.Draft.{Draft}
 use Rattle.drafts.specs.Drafted.{Drafted}
 use Rattle.fallback.specs.declared.FallbackPlan.{FallbackPlan}
@@ -62,6 +62,10 @@ pub record PlanOutcome : Type 0 where
 abbrev pub plan_outcome : ℕ → List ℕ → List ℕ → List ℕ → PlanOutcome
 plan_outcome count masks lengths area = record { count = count; masks = masks; lengths = lengths; area = area }
 
+-- what the call answers: a plan, or why there is none
+abbrev pub PlanAnswer : Type 0
+PlanAnswer = Result FallbackPlan Refusal
+
 -- "A refusal gives its number and zeros elsewhere"
 abbrev pub nothing : List ℕ → PlanOutcome
 nothing area = plan_outcome 0 seven seven area
@@ -70,27 +74,28 @@ nothing area = plan_outcome 0 seven seven area
 abbrev pub made : List Entry → List ℕ → PlanOutcome
 made entries area = plan_outcome (length entries) (masks_of entries) (lengths_of entries) (all_bytes entries ++ drop (length (all_bytes entries)) area)
 
-abbrev pub refused_by : Verdict → FallbackPlan
-refused_by verdict = record { verdict = verdict; count = 0; masks = seven; lengths = seven }
+-- the plan that an answer says; a refusal says zeros
+abbrev pub plan_said : PlanAnswer → FallbackPlan
+plan_said (Ok p) = p
+plan_said (Err k) = record { count = 0; masks = seven; lengths = seven }
+
+-- what there is after the call
+abbrev pub outcome_said : PlanAnswer → List ℕ → PlanOutcome
+outcome_said r left = plan_outcome (plan_said r).count (plan_said r).masks (plan_said r).lengths left
 
 abbrev pub plan_after : Inputs → List ℕ → Left PlanOutcome
 plan_after i area = leaves (plan_refusal i (length area)) (nothing area) (made (plan i) area)
 
 -- entries put into the area, if they go in
-abbrev pub Settled : List Entry → List ℕ → FallbackPlan → List ℕ → Type 0
+abbrev pub Settled : List Entry → List ℕ → PlanAnswer → List ℕ → Type 0
 Settled entries area r left =
-    After (said r.verdict) (plan_outcome r.count r.masks r.lengths left)
+    After (said r) (outcome_said r left)
     ≡ leaves (first (room_row entries (length area))) (nothing area) (made entries area)
 
 -- those of a draft
-abbrev pub Settles : Draft → List ℕ → List ℕ → FallbackPlan → List ℕ → Type 0
+abbrev pub Settles : Draft → List ℕ → List ℕ → PlanAnswer → List ℕ → Type 0
 Settles draft scratch area r left = (entries : List Entry) → Drafted entries draft scratch → Settled entries area r left
 
--- what is asked of the columns, as the tests have it; and memory for the bytes of the longest plan
-pub record Passed (i : Inputs) (scratch : List ℕ) : Type 0 where
-  pub tested : first (lent_rows i) ≡ 0
-  pub sized : length scratch ≡ longest_plan
-
 -- the statement of the call: lent these inputs and an area, it may answer r and leave the area `left`
-abbrev pub Planning : Inputs → List ℕ → FallbackPlan → List ℕ → Type 0
-Planning i area r left = After (said r.verdict) (plan_outcome r.count r.masks r.lengths left) ≡ plan_after i area
+abbrev pub Planning : Inputs → List ℕ → PlanAnswer → List ℕ → Type 0
+Planning i area r left = After (said r) (outcome_said r left) ≡ plan_after i area

@@ -1,8 +1,9 @@
--- A font's map: codes that rise, by their places (`rising_lt`); the glyph at a place, and none (`glyph-at`, `glyph-none`); the greatest power of two that is not above a number, by doubling (`Doubling`, `doubling_begins`, `doubling_some`, `doubling_next`, `doubling_ends`); the search in a window that is a power of two, whose loop knows that codes before the window are below the code sought, and codes behind it above it (`Searching`, `searching_begins`, `searching_next`, `searching_inside`, `searching_middle`, `searching_finds`, `searching_ends`; `searching_nowhere` without codes); glyphs that a rule may use (`usable-glyph`, `large_glyph`, `no_glyph`), and what they say (`glyph-told`, `glyph_missing`); that a search has one answer (`found-once`).
+-- A font's map: codes that rise, by their places (`rising_lt`); the glyph at a place, and none (`glyph-at`, `glyph-none`); the search in a window that is a power of two, whose loop knows that codes before the window are below the code sought, and codes behind it above it (`Searching`, `searching_begins`, `searching_next`, `searching_inside`, `searching_middle`, `searching_finds`, `searching_ends`; `searching_nowhere` without codes); that a search has one answer (`found-once`).
 -- Assumes nothing.
 use mathlib.Core.Path.{◌≡◌, refl, sym, ap, ◌∙◌}
 use mathlib.Core.Bool.{Bool, true, false, cond}
 use mathlib.Core.List.{List, [], ◌∷◌}
+use Rattle.std.specs.Prelude.{Option, Some, None}
 use Prim.Native.Nat.{ℕ, zero, suc, ◌+◌, ◌-◌, ◌*◌, ◌/◌, ◌^◌, ◌≤◌, ◌<◌}
 use native.Mathlib.Nat.{pow-zero, pow-suc}
 use native.Mathlib.Omega.{arith}
@@ -12,10 +13,8 @@ use lib.Pow.{pow_pos}
 use lib.ListN.{length, get_or}
 use Rattle.refusals.specs.Columns.{rising}
 use Rattle.refusals.proofs.ColumnLaws.{rising-at}
-use Rattle.fonts.specs.Font.{font_of, Sound, Span, absent, glyph_among, number_found, Usable}
+use Rattle.fonts.specs.Font.{font_of, Sound, Span, absent, glyph_among, number_found}
 use Rattle.letters.specs.declared.Glyph.{Glyph}
-use Rattle.fonts.specs.declared.Found.{Found}
-use Rattle.fonts.specs.declared.Found.TheVariants.{At, Absent}
 
 -- ---- codes that rise strictly
 pub rising_lt : (l : List ℕ) → rising 1 l ≡ true → (i j : ℕ) → i < j → j < length l → get_or l i 0 < get_or l j 0
@@ -45,30 +44,6 @@ glyph-at (c ∷ cs) [] x m e h p q = absurd (omega arith)
 glyph-at (c ∷ cs) (g ∷ gs) x zero e h p q = rw (eq-eqb c x p)
 glyph-at (c ∷ cs) (g ∷ gs) x (suc m) e h p q =
     rw (ne_eqb c x (q 0 (omega arith))) (glyph-at cs gs x m (omega arith) (omega arith) p (λ k r. q (suc k) (omega arith)))
-
--- ---- the greatest power of two that is not above n, by doubling
-pub record Doubling (n span : ℕ) : Type 0 where
-  pub exponent : ℕ
-  pub power : span ≡ 2 ^ exponent
-  pub inside : 0 < n → span ≤ n
-
-pub doubling_begins : (n : ℕ) → Doubling n 1
-doubling_begins n = record { exponent = 0; power = sym (pow-zero 2); inside = λ h. omega arith }
-
-module _ {n span : ℕ} (p : Doubling n span) where
-  pub doubling_some : 0 < span
-  doubling_some = rw p.power (pow_pos p.exponent)
-
-  pub doubling_next : span ≤ n / 2 → Doubling n (span * 2)
-  doubling_next h =
-      record {
-        exponent = suc p.exponent;
-        power = ap (λ (x : ℕ). x * 2) p.power ∙ sym (pow-suc 2 p.exponent);
-        inside = λ g. omega arith;
-      }
-
-  pub doubling_ends : n / 2 < span → Span n span
-  doubling_ends h = record { exponent = p.exponent; power = p.power; inside = p.inside; reaches = omega arith }
 
 -- ---- the search in a window that is a power of two
 pub record Searching (codes : List ℕ) (x base half : ℕ) : Type 0 where
@@ -194,38 +169,13 @@ module _ {codes : List ℕ} {x base half : ℕ} (p : Searching codes x base half
 pub searching_nowhere : (codes gs : List ℕ) (x : ℕ) → length codes ≡ 0 → absent ≡ glyph_among codes gs x
 searching_nowhere codes gs x e = sym (glyph-none codes gs x (λ k q r. omega arith))
 
--- ---- the glyph that a rule may use, by what a search answered
-module _ {f : Found} {n : ℕ} (e : number_found f ≡ n) where
-  pub usable-glyph : {g : Glyph} → f ≡ At g → g.0 ≤ 65535 → Usable (At g) n
-  usable-glyph {g} p h =
-      let z : g.0 ≡ n = sym (ap number_found p) ∙ e in
-      (z, omega arith)
-
-  pub large_glyph : {g : Glyph} → f ≡ At g → 65535 < g.0 → Usable Absent n
-  large_glyph {g} p h =
-      let z : g.0 ≡ n = sym (ap number_found p) ∙ e in
-      omega arith
-
-  pub no_glyph : f ≡ Absent → Usable Absent n
-  no_glyph p =
-      let z : absent ≡ n = sym (ap number_found p) ∙ e in
-      omega arith
-
--- and what it says of the font's own
-module _ {r : Found} {n : ℕ} (u : Usable r n) where
-  pub glyph-told : {g : Glyph} → r ≡ At g → (g.0 ≡ n) × (n < 65536)
-  glyph-told e = rw e at u
-
-  pub glyph_missing : r ≡ Absent → 65536 ≤ n
-  glyph_missing e = rw e at u
-
 -- ---- one answer, since a glyph is of 32 bits
-abbrev pub Small : Found → Type 0
-Small (At g) = g.0 < absent
-Small Absent = Unit
+abbrev pub Small : Option Glyph → Type 0
+Small (Some g) = g.0 < absent
+Small None = Unit
 
-pub found-once : (a b : Found) → Small a → Small b → number_found a ≡ number_found b → a ≡ b
-found-once (At x) (At y) s t e = ap (λ n. At (record { 0 = n })) e
-found-once (At x) Absent s t e = absurd (omega arith)
-found-once Absent (At y) s t e = absurd (omega arith)
-found-once Absent Absent s t e = refl
+pub found-once : (a b : Option Glyph) → Small a → Small b → number_found a ≡ number_found b → a ≡ b
+found-once (Some x) (Some y) s t e = ap (λ n. Some (record { 0 = n })) e
+found-once (Some x) None s t e = absurd (omega arith)
+found-once None (Some y) s t e = absurd (omega arith)
+found-once None None s t e = refl

@@ -1,10 +1,8 @@
--- A font's map from code points to glyphs, two columns: `Font`, `font_of` the map; `font_now`, `font_lent` the same from columns that a call is lent, as a `requires` and as an `ensures` has them; `Sound` what is asked of one; `Span` the window that a search of it begins with; `absent`, `glyph_among`, `glyph_of` the glyph of a code, or none; `number_found` what a search answers, `Usable` what one for a rule does.
+-- A font's map from code points to glyphs, two columns: `Font`, `font_of` the map; `Sound` what is asked of one; `Span` the window that a search of it begins with; `absent`, `glyph_among`, `glyph_of` the glyph of a code, or none; `number_found` what a search answers, `Usable` what one for a rule does.
 -- Assumes nothing.
-use Rattle.std.specs.Prelude.{◌≡◌, true, cond, List, [], ◌∷◌, ℕ, ◌*◌, ◌^◌, ◌≤◌, ◌<◌, eqb, length}
-use Rattle.laws.specs.Lent.{Slice, Borrowed}
+use Rattle.std.specs.Prelude.{◌≡◌, true, cond, List, [], ◌∷◌, ℕ, ◌*◌, ◌^◌, ◌≤◌, ◌<◌, Option, Some, None, eqb, length}
 use Rattle.refusals.specs.Columns.{rising}
-use Rattle.fonts.specs.declared.Found.{Found}
-use Rattle.fonts.specs.declared.Found.TheVariants.{At, Absent}
+use Rattle.letters.specs.declared.Glyph.{Glyph}
 
 -- codes, and the glyph of each at its place
 pub record Font : Type 0 where
@@ -13,13 +11,6 @@ pub record Font : Type 0 where
 
 abbrev pub font_of : List ℕ → List ℕ → Font
 font_of codes glyphs = record { codes = codes; glyphs = glyphs }
-
-abbrev pub font_now : Slice ℕ → Slice ℕ → Font
-font_now codes glyphs = font_of codes.now glyphs.now
-
--- a map is lent to be read, so it is one at both moments
-abbrev pub font_lent : Borrowed ℕ → Borrowed ℕ → Font
-font_lent codes glyphs = font_now codes.entry glyphs.entry
 
 -- a glyph for each code, and "codes rise strictly"
 pub record Sound (f : Font) : Type 0 where
@@ -47,11 +38,11 @@ abbrev pub glyph_of : Font → ℕ → ℕ
 glyph_of f c = glyph_among f.codes f.glyphs c
 
 -- what a search answers, as a number
-abbrev pub number_found : Found → ℕ
-number_found (At g) = g.0
-number_found Absent = absent
+abbrev pub number_found : Option Glyph → ℕ
+number_found (Some g) = g.0
+number_found None = absent
 
 -- what a search for a rule answers of a code whose glyph is n: "Glyphs above 65,535 count as absent in rules"
-abbrev pub Usable : Found → ℕ → Type 0
-Usable (At g) n = (g.0 ≡ n) × (n < 65536)
-Usable Absent n = 65536 ≤ n
+abbrev pub Usable : Option Glyph → ℕ → Type 0
+Usable (Some g) n = (g.0 ≡ n) × (n < 65536)
+Usable None n = 65536 ≤ n

@@ -13,13 +13,9 @@ fn put_digits(n: usize, x: u64, components: &mut [u16], at: usize) -> u64
     ensures { (result ≡ above n x) × (components.new ≡ pasted (digits n x) at components.old) }
 {
     let mut rest = x;
-    let mut left = n;
-    let mut k = at;
-    while 0 < left {
+    for k in at..at + n {
         components[k] = (rest % 65536) as u16;
         rest /= 65536;
-        k += 1;
-        left -= 1;
     }
     rest
 }
@@ -32,12 +28,10 @@ pub fn unpack(n: usize, rules: &[u64], components: &mut [u16], ligatures: &mut [
     ensures ligatures { let xs = rules.now in
         ligatures.new ≡ ligatures_of (map (unpacked n) xs) ++ drop (length xs) ligatures.old }
 {
-    let mut i = 0;
     let mut at = 0;
-    while i < rules.len() {
+    for i in 0..rules.len() {
         let ligature = put_digits(n, rules[i], components, at);
         ligatures[i] = (ligature % 65536) as u16;
         at += n;
-        i += 1;
     }
 }

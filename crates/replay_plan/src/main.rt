@@ -39,7 +39,7 @@ fn replay(body: &[u8]) -> Outcome {
     let mark_components = columns::take_u16(body, &mut at, &mut mark_components_room);
     let mark_ligatures = columns::take_u16(body, &mut at, &mut mark_ligatures_room);
     let area = columns::take_u8(body, &mut at, &mut area_room);
-    let plan = FallbackPlan::new(
+    let answer = FallbackPlan::new(
         masks,
         codes,
         glyphs,
@@ -53,7 +53,13 @@ fn replay(body: &[u8]) -> Outcome {
         mark_ligatures,
         area,
     );
-    let numbered = cases::same_u8(body, &mut at, &[plan.verdict.number()]);
+    let numbered = cases::same_u8(body, &mut at, &[refusals::number(&answer)]);
+    // A refusal says zeros.
+    let plan = answer.unwrap_or(FallbackPlan {
+        count: 0,
+        masks: [0; 7],
+        lengths: [0; 7],
+    });
     let counted = cases::same_u8(body, &mut at, &[small(plan.count)]);
     let masked = cases::same_u32(body, &mut at, &plan.masks);
     let measured = cases::same_u32(body, &mut at, &plan.lengths);

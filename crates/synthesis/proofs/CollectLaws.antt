@@ -11,8 +11,7 @@ use Rattle.laws.specs.Lists.{pasted}
 use Rattle.laws.proofs.PasteLaws.{length-pasted, paste_none, paste_behind}
 use Rattle.fonts.specs.Font.{Font}
 use Rattle.packing.specs.Packed.{pack}
-use Rattle.synthesis.specs.declared.Row.{Row}
-use Rattle.synthesis.specs.declared.Row.TheVariants.{Rule as Held, Dropped}
+use Rattle.std.specs.Prelude.{Option, Some, None}
 use Rattle.synthesis.specs.Rules.{rows, ruled, kind_of}
 use Rattle.synthesis.specs.Made.{packed_in, row_of, gives, Collected}
 use Rattle.synthesis.proofs.RuledLaws.{length-rows, ruled_cons, ruled-few}
@@ -30,9 +29,9 @@ pub record Collecting (f : Font) (count n each k : ℕ) (cs ls start : List ℕ)
   pub place : made + length (to_come f n each k cs ls left c l) ≡ length (to_come f n each k cs ls count 0 0)
   pub whole : pasted (to_come f n each k cs ls left c l) made now ≡ pasted (to_come f n each k cs ls count 0 0) 0 start
 
-held-few : (row : Row) → length (packed_in row) ≤ 1
-held-few (Held x) = omega arith
-held-few Dropped = omega arith
+held-few : (row : Option ℕ) → length (packed_in row) ≤ 1
+held-few (Some x) = omega arith
+held-few None = omega arith
 
 module _ (f : Font) (count n each k : ℕ) (cs ls start : List ℕ) where
   pub collecting_begins : count * n ≤ length cs → count * each ≤ length ls → count ≤ length start → Collecting f count n each k cs ls start count 0 0 0 start
@@ -68,7 +67,7 @@ module _ (f : Font) (count n each k : ℕ) (cs ls start : List ℕ) where
 
   pub collecting_next :
       (left c l made : ℕ) (now : List ℕ) → Collecting f count n each k cs ls start left c l made now → 0 < left
-      → (row : Row) → packed_in row ≡ gives f (kind_of n) (row_of n cs c (get_or ls (l + k) 0))
+      → (row : Option ℕ) → packed_in row ≡ gives f (kind_of n) (row_of n cs c (get_or ls (l + k) 0))
       → {after : List ℕ} {r : ℕ} → (after ≡ pasted (packed_in row) made now) × (r ≡ made + length (packed_in row))
       → Collecting f count n each k cs ls start (left - 1) (c + n) (l + each) r after
   collecting_next zero c l made now p h row e w = absurd (omega arith)

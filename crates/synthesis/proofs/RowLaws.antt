@@ -19,8 +19,7 @@ use Rattle.packing.specs.Packed.{packed}
 use Rattle.packing.proofs.PackLaws.{pack-bound}
 use Rattle.synthesis.specs.Rules.{kind_of, ruled}
 use Rattle.synthesis.specs.Made.{packed_in, row_of, pair, gives}
-use Rattle.synthesis.specs.declared.Row.{Row}
-use Rattle.synthesis.specs.declared.Row.TheVariants.{Rule as Held, Dropped}
+use Rattle.std.specs.Prelude.{Option, Some, None}
 
 -- ---- a shaping row
 module _ (f : Font) (code form : ℕ) where
@@ -137,8 +136,8 @@ module _ (f : Font) (n : ℕ) (cs : List ℕ) (at ligature : ℕ) {v : List ℕ}
   kind-ligature e p = p ∙ rw (ne_eqb n 1 e)
 
 -- ---- what a row gives is put at a place of a column
-pub keep_one : (l : List ℕ) (at : ℕ) {row : Row} {x : ℕ} → row ≡ Held x → at < length l → (set l at x ≡ pasted (packed_in row) at l) × (at + 1 ≡ at + length (packed_in row))
+pub keep_one : (l : List ℕ) (at : ℕ) {row : Option ℕ} {x : ℕ} → row ≡ Some x → at < length l → (set l at x ≡ pasted (packed_in row) at l) × (at + 1 ≡ at + length (packed_in row))
 keep_one l at {row} {x} e h = rw e (paste_one x at l h, refl)
 
-pub keep-none : (l : List ℕ) (at : ℕ) {row : Row} → row ≡ Dropped → (l ≡ pasted (packed_in row) at l) × (at ≡ at + length (packed_in row))
+pub keep-none : (l : List ℕ) (at : ℕ) {row : Option ℕ} → row ≡ None → (l ≡ pasted (packed_in row) at l) × (at ≡ at + length (packed_in row))
 keep-none l at e = rw e (sym (paste_none at l), omega arith)

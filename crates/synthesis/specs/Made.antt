@@ -1,18 +1,16 @@
 -- What code makes of rows: `packed_in` the numbers in an answer; `row_of`, `pair` a row of a column, and one of a code and its form; `gives` the rule of a row as one number, if it gives one; `Collected` the rules of rows at the start of a column.
 -- Assumes nothing.
-use Rattle.std.specs.Prelude.{◌≡◌, List, [], ◌∷◌, ◌++◌, map, ℕ, length, take, drop}
+use Rattle.std.specs.Prelude.{◌≡◌, List, [], ◌∷◌, ◌++◌, map, ℕ, Option, Some, None, length, take, drop}
 use Rattle.layouts.specs.declared.Kind.{Kind}
 use Rattle.layouts.specs.Tables.{Rule}
 use Rattle.fonts.specs.Font.{Font}
 use Rattle.packing.specs.Packed.{pack}
-use Rattle.synthesis.specs.declared.Row.{Row}
-use Rattle.synthesis.specs.declared.Row.TheVariants.{Rule as Held, Dropped}
 use Rattle.synthesis.specs.Rules.{ruled}
 
 -- the rule that an answer holds, if it does
-abbrev pub packed_in : Row → List ℕ
-packed_in (Held x) = x ∷ []
-packed_in Dropped = []
+abbrev pub packed_in : Option ℕ → List ℕ
+packed_in (Some x) = x ∷ []
+packed_in None = []
 
 -- the row whose n components begin at a place of a column
 abbrev pub row_of : ℕ → List ℕ → ℕ → ℕ → Rule

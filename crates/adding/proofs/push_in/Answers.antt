@@ -3,9 +3,9 @@
 use mathlib.Core.Path.{sym}
 use Prim.Native.Nat.{◌*◌, ◌≤◌}
 use native.Mathlib.Omega.{arith}
-use lib.ListN.{length, take}
+use lib.ListN.{length}
 use lib.Seq.{length-take-le}
-use Rattle.adding.proofs.PushedLaws.{within, first_column, second_column, columns-fit, columns-added}
+use Rattle.adding.proofs.PushedLaws.{within, first_column, second_column, column-known, column-even, column-few, columns-added}
 use Rattle.adding.proofs.push_in.Goals as goal
 use Rattle.adding.proofs.push_in.Goals.{After-unpack, Start}
 
@@ -29,28 +29,41 @@ pub overflow_mul-wide : goal.overflow_mul-wide
 overflow_mul-wide c =
     omega (arith, wide_in (search))
 
-pub slice_bounds-push-end : goal.slice_bounds-push-end
-slice_bounds-push-end c =
-    in_firsts (goal.at.slice_bounds-push-end c).After-unpack
+pub slice_bounds-columns-end : goal.slice_bounds-columns-end
+slice_bounds-columns-end c =
+    in_firsts (goal.at.slice_bounds-columns-end c).After-unpack
 
-pub slice_bounds-push-end-2 : goal.slice_bounds-push-end-2
-slice_bounds-push-end-2 c =
-    sym (length-take-le _ _ (in_firsts (goal.at.slice_bounds-push-end-2 c).After-unpack))
+pub slice_bounds-columns-end-2 : goal.slice_bounds-columns-end-2
+slice_bounds-columns-end-2 c =
+    sym (length-take-le _ _ (in_firsts (goal.at.slice_bounds-columns-end-2 c).After-unpack))
 
-pub slice_bounds-push-end-4 : goal.slice_bounds-push-end-4
-slice_bounds-push-end-4 c =
-    sym (length-take-le _ _ (in_seconds (goal.at.slice_bounds-push-end-4 c).After-unpack))
+pub slice_bounds-columns-end-4 : goal.slice_bounds-columns-end-4
+slice_bounds-columns-end-4 c =
+    sym (length-take-le _ _ (in_seconds (goal.at.slice_bounds-columns-end-4 c).After-unpack))
 
-pub push-requires : goal.push-requires
-push-requires c =
+pub invariant_of-columns : goal.invariant_of-columns
+invariant_of-columns c =
     let a = c.args in
     let n = a.n in
     let xs = a.rules.now in
-    columns-fit n xs c.requires.0 c.requires.1 c.requires.2 c.kind_of.result c.kind_of.ensures (take (length xs * n) c.unpack.new.components) (take (length xs) c.unpack.new.ligatures) (first_column n xs a.firsts.now c.unpack.new.components c.unpack.ensures.components) (second_column n xs a.seconds.now c.unpack.new.ligatures c.unpack.ensures.ligatures) a.draft a.scratch.now c.requires.5
+    let r = c.requires in
+    let g = first_column n xs a.firsts.now c.unpack.new.components c.unpack.ensures.components in
+    let s = second_column n xs a.seconds.now c.unpack.new.ligatures c.unpack.ensures.ligatures in
+    record {
+      named = column-known n xs r.0 r.1 r.2 c.kind_of.result c.kind_of.ensures _ _ g s;
+      even = column-even n xs r.0 r.1 r.2 c.kind_of.result c.kind_of.ensures _ _ g s;
+      few = column-few n xs r.0 r.1 r.2 c.kind_of.result c.kind_of.ensures _ _ g s;
+    }
+
+pub push-requires : goal.push-requires
+push-requires c = rw c.kind_of.ensures c.requires.5
 
 pub returns : goal.returns
 returns c =
     let a = c.args in
     let n = a.n in
     let xs = a.rules.now in
-    columns-added n xs c.requires.0 c.requires.1 c.requires.2 c.kind_of.result c.kind_of.ensures (take (length xs * n) c.unpack.new.components) (take (length xs) c.unpack.new.ligatures) (first_column n xs a.firsts.now c.unpack.new.components c.unpack.ensures.components) (second_column n xs a.seconds.now c.unpack.new.ligatures c.unpack.ensures.ligatures) a.draft a.scratch.now a.mask a.flags c.push.result c.push.new.scratch c.push.ensures
+    let r = c.requires in
+    let g = first_column n xs a.firsts.now c.unpack.new.components c.unpack.ensures.components in
+    let s = second_column n xs a.seconds.now c.unpack.new.ligatures c.unpack.ensures.ligatures in
+    columns-added n xs r.0 r.1 r.2 c.kind_of.result c.kind_of.ensures _ _ g s a.draft a.scratch.now a.mask a.flags c.push.result c.push.new.scratch c.push.ensures

@@ -5,10 +5,8 @@ use Rattle.fallback.proofs.settle.Goals as goal
 
 pub returns-then-area-n : goal.returns-then-area-n
 returns-then-area-n c =
-    let a = c.args in
-    too_short a.draft a.scratch.now a.area.now c.if-area-n.true c.none.result c.none.ensures
+    too_short c.args.draft c.args.scratch.now c.args.area.now c.if-area-n.true
 
 pub returns : goal.returns
 returns c =
-    let a = c.args in
-    put_in a.draft a.scratch.now a.area.now c.if-area-n.false c.copy_bytes.new.to c.copy_bytes.ensures
+    put_in c.args.draft c.args.scratch.now c.args.area.now c.if-area-n.false c.copy_from_slice.new.self c.copy_from_slice.ensures.after

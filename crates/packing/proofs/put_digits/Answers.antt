@@ -1,14 +1,23 @@
--- `packing::put_digits` meets its contract: what is put and what is still to be put are the digits of the number. The measure is how many are left.
+-- `packing::put_digits` meets its contract: what is put and what is still to be put are the digits of the number.
 -- Assumes nothing.
-use mathlib.Core.Path.{refl}
+use Prim.Native.Nat.{◌+◌, ◌-◌}
+use mathlib.Core.Path.{◌≡◌, refl}
+use native.Mathlib.Omega.{arith}
 use Rattle.packing.proofs.UnpackLaws.{putting_next, putting_ends}
 use Rattle.packing.proofs.put_digits.Goals as goal
 
-pub loop-left-init : goal.loop-left-init
-loop-left-init c = record { long = refl; room = c.requires; over = refl; parts = refl }
+pub loop-k-init : goal.loop-k-init
+loop-k-init c =
+    let a = c.args in
+    let all : a.at + a.n - a.at ≡ a.n = omega arith in
+    rw all (record { long = refl; room = c.requires; over = refl; parts = refl })
 
-pub loop-left-preserved : goal.loop-left-preserved
-loop-left-preserved c = putting_next c.loop-left.invariant c.loop-left-test.true
+pub loop-k-preserved : goal.loop-k-preserved
+loop-k-preserved c =
+    let e = c.args.at + c.args.n in
+    let k = c.loop-k.k in
+    let less : e - (k + 1) ≡ e - k - 1 = omega arith in
+    rw less (putting_next c.loop-k.invariant (omega (arith, c.loop-k-test.true)))
 
 pub returns : goal.returns
-returns c = putting_ends c.loop-left.invariant c.loop-left-test.false
+returns c = putting_ends c.loop-k.invariant (omega (arith, c.loop-k-test.false))

@@ -107,7 +107,7 @@ fn settle(draft: Draft, scratch: &[u8], area: &mut [u8]) -> FallbackPlan
     if area.len() < n {
         return FallbackPlan::none(Verdict::Refused(Refusal::NoRoom));
     }
-    parts::copy_bytes(scratch, 0, n, area, 0);
+    parts::copy(scratch, 0, n, area, 0);
     let masks = draft.masks;
     let lengths = draft.lengths;
     FallbackPlan {

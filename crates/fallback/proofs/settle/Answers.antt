@@ -11,4 +11,4 @@ returns-then-area-n c =
 pub returns : goal.returns
 returns c =
     let a = c.args in
-    put_in a.draft a.scratch.now a.area.now c.if-area-n.false c.copy_bytes.new.to c.copy_bytes.ensures
+    put_in a.draft a.scratch.now a.area.now c.if-area-n.false c.copy.new.to c.copy.ensures

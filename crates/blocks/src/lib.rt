@@ -1,4 +1,5 @@
 // Blocks: a block of marks is brought forward in a part, codes and classes at once. Linear: three turns, and no record moves one place at a time.
+// `rotate_left` would need `memmove`, and of the C library the archives have only memcpy and memset.
 #![tactic(auto)]
 
 ghost use Rattle.std.specs.Prelude.{◌≡◌, ◌++◌, reverse, ◌≤◌, length, take, drop};
@@ -10,18 +11,8 @@ fn turn(codes: &mut [u32], classes: &mut [u8], a: usize)
     requires a_in_bounds { a ≤ length codes.old }
     ensures { marks codes.new classes.new ≡ take a (marks codes.old classes.old) ++ reverse (drop a (marks codes.old classes.old)) }
 {
-    let mut lo = a;
-    let mut hi = codes.len();
-    while lo + 1 < hi {
-        hi -= 1;
-        let code = codes[lo];
-        codes[lo] = codes[hi];
-        codes[hi] = code;
-        let class = classes[lo];
-        classes[lo] = classes[hi];
-        classes[hi] = class;
-        lo += 1;
-    }
+    codes[a..].reverse();
+    classes[a..].reverse();
 }
 
 // The marks from `n` on go to `a`, before those that stand there.

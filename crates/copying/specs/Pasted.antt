@@ -44,5 +44,5 @@ pub record Copyable (i s : ℕ) (line : Columns) (o : ℕ) (output : Columns) : 
   pub room : Roomy (o + s) output
 
 -- it stands in the output as it was lent, and nothing else is written
-abbrev pub PartCopied : ℕ → ℕ → Both Columns Columns → ℕ → Both Columns Columns → Type 0
-PartCopied i s line o output = output.exit ≡ pasted_all i s line.entry o output.entry
+abbrev pub PartCopied : ℕ → ℕ → Columns → ℕ → Both Columns Columns → Type 0
+PartCopied i s line o output = output.exit ≡ pasted_all i s line o output.entry

@@ -6,15 +6,15 @@ use Prim.Native.Nat.{◌≤◌}
 use native.Mathlib.Omega.{arith}
 use lib.Dec.{eqb}
 use lib.ListN.{length}
+use Rattle.std.specs.Prelude.{Ok, Err}
+use Rattle.refusals.specs.Numbers.{said}
 use Rattle.refusals.proofs.VerdictLaws.{refused_number}
 use Rattle.refusals.proofs.LeftLaws.{left-number, left-accepted}
 use Rattle.refusals.proofs.PromiseLaws.{kept}
-use Rattle.marks.specs.declared.Answer.{Answer}
-use Rattle.marks.specs.declared.Answer.TheVariants.{Reordered, Refused}
 use Rattle.marks.specs.declared.Merged.{Merged}
 use Rattle.marks.specs.declared.Merged.TheVariants.{Nothing, One, Two}
 use Rattle.marks.specs.Passes.{reorder_classes, new_class_lem}
-use Rattle.marks.specs.Reordered.{ReorderRequest, Columns, ReorderOutcome, reorder_outcome, listed, part, new_part, reordered, ranges_of, reorder_refusal, number_said, ranges_said, Reordering}
+use Rattle.marks.specs.Reordered.{ReorderRequest, Columns, ReorderOutcome, reorder_outcome, listed, part, new_part, reordered, ranges_of, reorder_refusal, Answer, ranges_said, Reordering}
 use Rattle.marks.proofs.ReorderedLaws.{same_answer, Allowed, allowed, length_part, part_afterwards}
 use Rattle.marks.proofs.UtrLaws.{passes-utr53, passes-arranged, number-passes, plain_passes}
 use Rattle.demands.specs.Marks.{Promised, OnlyThePart, ByUtr53, Arranged, NothingLost, OthersStay, AtMostTwo, RangeOfEach, ChangesMerged}
@@ -40,12 +40,12 @@ promised =
     })
 
 -- an accepted request: the columns, the ranges and the part afterwards
-module _ (q : ReorderRequest) (c : Columns) (r : Answer) (d : Columns) (x : Reordering q c r d) (z : number_said r ≡ 0) where
+module _ (q : ReorderRequest) (c : Columns) (r : Answer) (d : Columns) (x : Reordering q c r d) (z : said r ≡ 0) where
   accepted : Allowed q c
-  accepted = allowed q c (sym (left-number (reorder_refusal q c) (old c) (new q c) (number_said r) (reorder_outcome (ranges_said r) d) x) ∙ z)
+  accepted = allowed q c (sym (left-number (reorder_refusal q c) (old c) (new q c) (said r) (reorder_outcome (ranges_said r) d) x) ∙ z)
 
   left : reorder_outcome (ranges_said r) d ≡ new q c
-  left = left-accepted (reorder_refusal q c) (old c) (new q c) (number_said r) (reorder_outcome (ranges_said r) d) x z
+  left = left-accepted (reorder_refusal q c) (old c) (new q c) (said r) (reorder_outcome (ranges_said r) d) x z
 
   columns-left : d ≡ reordered q c
   columns-left = ap (λ (o : ReorderOutcome). o.columns) left
@@ -77,15 +77,15 @@ two-listed (One a) = omega arith
 two-listed (Two a b) = omega arith
 
 pub at_most_two : AtMostTwo
-at_most_two q c (Reordered m) d x =
-    (two-listed m, rw (ranges-left q c (Reordered m) d x refl) (ranges-within q q.start reorder_classes (part q c) (omega arith) (omega (arith, length_part q c (accepted q c (Reordered m) d x refl)))))
-at_most_two q c (Refused k) d x = (omega arith, tt)
+at_most_two q c (Ok m) d x =
+    (two-listed m, rw (ranges-left q c (Ok m) d x refl) (ranges-within q q.start reorder_classes (part q c) (omega arith) (omega (arith, length_part q c (accepted q c (Ok m) d x refl)))))
+at_most_two q c (Err k) d x = (omega arith, tt)
 
 pub range_of-each : RangeOfEach
 range_of-each q c r d x z up = ranges-left q c r d x z ∙ ranges-of-each q.start (part q c) up
 
 pub changes-merged : ChangesMerged
-changes-merged q c (Reordered m) d x p h =
-    let e = ranges-left q c (Reordered m) d x refl in
-    rw (columns-left q c (Reordered m) d x refl) (columns-outside q c (accepted q c (Reordered m) d x refl) p (λ u. h (rw e u)))
-changes-merged q c (Refused k) d x p h = rw (promised.refused_stays q c (Refused k) d x (refused_number k)).0 (refl, refl)
+changes-merged q c (Ok m) d x p h =
+    let e = ranges-left q c (Ok m) d x refl in
+    rw (columns-left q c (Ok m) d x refl) (columns-outside q c (accepted q c (Ok m) d x refl) p (λ u. h (rw e u)))
+changes-merged q c (Err k) d x p h = rw (promised.refused_stays q c (Err k) d x (refused_number k)).0 (refl, refl)

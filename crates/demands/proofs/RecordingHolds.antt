@@ -11,9 +11,9 @@ use lib.ListN.{length, get_or}
 use Rattle.refusals.proofs.LeftLaws.{left-number, left-accepted}
 use Rattle.refusals.proofs.PromiseLaws.{kept}
 use Rattle.letters.specs.Actions.{fixed, repeating}
-use Rattle.recording.specs.declared.Answer.{Answer}
+use Rattle.refusals.specs.Numbers.{said}
 use Rattle.refusals.specs.Columns.{yes}
-use Rattle.recording.specs.Recorded.{RecordRequest, RecordOutcome, record_outcome, some, tile, new_action_lem, new_actions, recorded, record_refusal, number_said, recorded_said, Recording}
+use Rattle.recording.specs.Recorded.{RecordRequest, RecordOutcome, record_outcome, some, tile, new_action_lem, new_actions, recorded, record_refusal, Answer, recorded_said, Recording}
 use Rattle.recording.proofs.RecordedLaws.{same_answer, Allowed, allowed, recorded-masked, recorded-unmasked}
 use Rattle.recording.proofs.ActionLaws.{none-multiplied}
 use Rattle.demands.specs.Recording.{Promised, OnlyMultiplied, ByParity, SaysWhether, NothingHappens}
@@ -76,12 +76,12 @@ module _ (q : RecordRequest) (actions : List ℕ) (r : Answer) (left : List ℕ)
   abbrev old : RecordOutcome
   old = record_outcome false actions
 
-  module _ (z : number_said r ≡ 0) where
+  module _ (z : said r ≡ 0) where
     accepted : Allowed q actions
-    accepted = allowed q actions (sym (left-number (record_refusal q actions) old (recorded q actions) (number_said r) (record_outcome (recorded_said r) left) x) ∙ z)
+    accepted = allowed q actions (sym (left-number (record_refusal q actions) old (recorded q actions) (said r) (record_outcome (recorded_said r) left) x) ∙ z)
 
     done : record_outcome (recorded_said r) left ≡ recorded q actions
-    done = left-accepted (record_refusal q actions) old (recorded q actions) (number_said r) (record_outcome (recorded_said r) left) x z
+    done = left-accepted (record_refusal q actions) old (recorded q actions) (said r) (record_outcome (recorded_said r) left) x z
 
     -- without a mask, and with one
     unmasked : q.mask ≡ 0 → (recorded_said r ≡ false) × (left ≡ actions)
@@ -101,7 +101,7 @@ by_zero (suc n) f g = g (λ e. omega arith)
 
 pub only-multiplied : OnlyMultiplied
 only-multiplied q actions r left x i p =
-    by_zero (number_said r)
+    by_zero (said r)
     (λ z.
     let a = accepted q actions r left x z in
     by_zero q.mask
@@ -125,7 +125,7 @@ says_whether q actions r left x z = (
 
 pub nothing_happens : NothingHappens
 nothing_happens q actions r left x n =
-    by_zero (number_said r)
+    by_zero (said r)
     (λ z.
     let a = accepted q actions r left x z in
     by_zero q.mask

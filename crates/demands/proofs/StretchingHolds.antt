@@ -15,8 +15,8 @@ use Rattle.runs.specs.Runs.{is_tile, is_plain}
 use Rattle.runs.specs.Stretched.{in_order, part_of, work, stretched, records_added}
 use Rattle.runs.proofs.RecordLaws.{blank, get_d_listed, length-line, length-work, spot-below, work-at}
 use Rattle.runs.proofs.StretchedLaws.{length-stretched}
-use Rattle.stretching.specs.declared.Answer.{Answer}
-use Rattle.stretching.specs.Stretching.{StretchRequest, StretchOutcome, stretch_outcome, new_line, laid_over, stretch_refusal, number_said, length_said, Stretching}
+use Rattle.refusals.specs.Numbers.{said}
+use Rattle.stretching.specs.Stretching.{StretchRequest, StretchOutcome, stretch_outcome, new_line, laid_over, stretch_refusal, Answer, length_said, Stretching}
 use Rattle.stretching.proofs.StretchingLaws.{same_answer, Allowed, allowed, number-given, accepted-left}
 use Rattle.demands.specs.Stretching.{Promised, PastTheAnswer, records, GivenAsItIs, CountAdded, OthersStay, CopiesKeep, FromTheLine, RunsHaveNoAdvance, TurnedRound}
 use Rattle.demands.proofs.WorkedLaws.{Every, every-at, every_more, Among, among-stretched, among-itself, plain-stretched, kept-stretched, Still, still-stretched, none-stretched, turned-stretched, records-glued}
@@ -48,12 +48,12 @@ module _ (q : StretchRequest) (output : Columns) (r : Answer) (left : Columns) (
       × Past n output.advances c.advances
       × Past n output.offsets c.offsets
 
-  past_refused : (number_said r ≡ 0 → ⊥) → AllPast (length_said r) left
+  past_refused : (said r ≡ 0 → ⊥) → AllPast (length_said r) left
   past_refused d =
       rw (promised.refused_stays q output r left x d).0
       (past_same _ _, past_same _ _, past_same _ _, past_same _ _, past_same _ _, past_same _ _, past_same _ _)
 
-  module _ (z : number_said r ≡ 0) where
+  module _ (z : said r ≡ 0) where
     accepted : Allowed q output
     accepted = allowed q output (sym (number-given q output r left x) ∙ z)
 
@@ -81,9 +81,9 @@ module _ (q : StretchRequest) (output : Columns) (r : Answer) (left : Columns) (
     records-left = rw (output-left, count_left) (records-glued (new_line q) _)
 
 pub past_the_answer : PastTheAnswer
-past_the_answer q output r left x = go (number_said r) refl
+past_the_answer q output r left x = go (said r) refl
   where
-    go : (n : ℕ) → number_said r ≡ n → AllPast q output r left x (length_said r) left
+    go : (n : ℕ) → said r ≡ n → AllPast q output r left x (length_said r) left
     go zero e = past-accepted q output r left x e
     go (suc n) e = past_refused q output r left x (λ z. omega (arith, e, z))
 
@@ -136,7 +136,7 @@ copies-keep q output r left x z e =
     ∙ kept-stretched q.rtl (line_of q.line)
 
 -- a record of the output, as one of a list
-module _ (q : StretchRequest) (output : Columns) (r : Answer) (left : Columns) (x : Stretching q output r left) (z : number_said r ≡ 0) (i : ℕ) (h : i < length_said r) where
+module _ (q : StretchRequest) (output : Columns) (r : Answer) (left : Columns) (x : Stretching q output r left) (z : said r ≡ 0) (i : ℕ) (h : i < length_said r) where
   -- what holds of each record of the new line holds of it
   holds_at : (P : Record → Type 0) → Every P (new_line q) → P (record_at left i)
   holds_at P e =

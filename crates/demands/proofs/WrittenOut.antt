@@ -15,10 +15,10 @@ use Rattle.lines.specs.Held.{setting_of, line_of, setting_lent, line_lent, line_
 use Rattle.lines.specs.Joined.{Joining}
 use Rattle.replacing.specs.Replaced.{Request, request_of, Replacing}
 use Rattle.coded.specs.Coded.{coded_line_of, coded_request_of, coded_setting_lent, coded_line_lent, coded_line_mut_lent, coded_line_all_mut_lent, JoiningCodes, ReplacingCodes}
-use Rattle.marks.specs.declared.Answer as marked
+use Rattle.marks.specs.Reordered as marked
 use Rattle.marks.specs.Reordered.{ReorderRequest, columns_of, marks_lent, Reordering}
 use Rattle.runs.specs.Records.{columns, columns_lent, columns_mut_lent}
-use Rattle.stretching.specs.declared.Answer as stretched
+use Rattle.stretching.specs.Stretching as stretched
 use Rattle.stretching.specs.Stretching.{stretch_request, Stretching}
 
 -- what only looks at a line writes nothing

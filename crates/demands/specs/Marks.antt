@@ -4,16 +4,16 @@
 -- Assumes nothing.
 use Rattle.std.specs.Prelude.{◌≡◌, not, List, [], ◌∷◌, ◌++◌, ◌⊎◌, ℕ, ◌+◌, ◌<◌, ◌≤◌, eqb, ltb, length, get_or, take, drop}
 use Rattle.laws.specs.Lists.{those}
+use Rattle.refusals.specs.Numbers.{said}
 use Rattle.refusals.specs.Promises.{Kept}
 use Rattle.blocks.specs.Marks.{Mark, codes_of}
-use Rattle.marks.specs.declared.Answer.{Answer}
 use Rattle.marks.specs.Passes.{Span, Over}
-use Rattle.marks.specs.Reordered.{ReorderRequest, Columns, part, reorder_rows, number_said, ranges_said, Reordering}
+use Rattle.marks.specs.Reordered.{ReorderRequest, Columns, part, reorder_rows, Answer, ranges_said, Reordering}
 use Rattle.marks.specs.Utr53.{Rising, is_modifier, lead, utr53, arranged}
 
 -- What every call promises, of this one: one answer; a refusal alters nothing and has no range; the smallest number that applies is given.
 abbrev pub Promised : Type 0
-Promised = Kept Reordering number_said reorder_rows (λ r _. ranges_said r ≡ [])
+Promised = Kept Reordering said reorder_rows (λ r _. ranges_said r ≡ [])
 
 -- ---- an accepted request: the rest of the line
 -- a column l has become m: before start and from end on it is as it was, and it has neither grown nor shrunk
@@ -25,20 +25,20 @@ pub record Outside (q : ReorderRequest) (l m : List ℕ) : Type 0 where
 -- Outside the part nothing changes, in neither column.
 abbrev pub OnlyThePart : Type 0
 OnlyThePart =
-    (q : ReorderRequest) (c : Columns) (r : Answer) (d : Columns) → Reordering q c r d → number_said r ≡ 0
+    (q : ReorderRequest) (c : Columns) (r : Answer) (d : Columns) → Reordering q c r d → said r ≡ 0
     → Outside q c.codes d.codes × Outside q c.classes d.classes
 
 -- ---- an accepted request: the part, where its classes do not fall
 -- Its codes are in the order that UTR 53's two steps for modifier marks give.
 abbrev pub ByUtr53 : Type 0
 ByUtr53 =
-    (q : ReorderRequest) (c : Columns) (r : Answer) (d : Columns) → Reordering q c r d → number_said r ≡ 0
+    (q : ReorderRequest) (c : Columns) (r : Answer) (d : Columns) → Reordering q c r d → said r ≡ 0
     → Rising (part q c) → codes_of (part q d) ≡ codes_of (utr53 (part q c))
 
 -- It is the 220 block, the 230 block and the rest, the blocks with the lent class numbers.
 abbrev pub Arranged : Type 0
 Arranged =
-    (q : ReorderRequest) (c : Columns) (r : Answer) (d : Columns) → Reordering q c r d → number_said r ≡ 0
+    (q : ReorderRequest) (c : Columns) (r : Answer) (d : Columns) → Reordering q c r d → said r ≡ 0
     → Rising (part q c) → part q d ≡ arranged q.low q.high (part q c)
 
 -- ---- an accepted request: the part, whatever its classes are
@@ -49,13 +49,13 @@ with_code code l = length (those (λ m. eqb m.code code) l)
 -- No code is lost or doubled: each stands there as often as before.
 abbrev pub NothingLost : Type 0
 NothingLost =
-    (q : ReorderRequest) (c : Columns) (r : Answer) (d : Columns) → Reordering q c r d → number_said r ≡ 0
+    (q : ReorderRequest) (c : Columns) (r : Answer) (d : Columns) → Reordering q c r d → said r ≡ 0
     → (code : ℕ) → with_code code (part q d) ≡ with_code code (part q c)
 
 -- The marks that are no modifiers keep their order among themselves, and their classes.
 abbrev pub OthersStay : Type 0
 OthersStay =
-    (q : ReorderRequest) (c : Columns) (r : Answer) (d : Columns) → Reordering q c r d → number_said r ≡ 0
+    (q : ReorderRequest) (c : Columns) (r : Answer) (d : Columns) → Reordering q c r d → said r ≡ 0
     → those (λ m. not (is_modifier m)) (part q d) ≡ those (λ m. not (is_modifier m)) (part q c)
 
 -- ---- the ranges
@@ -83,7 +83,7 @@ spanned now before (m ∷ ms) = Over now (before + length (m ∷ ms)) ∷ []
 -- Where the classes of the part do not fall, each block that is not empty has one range: from where it stands now to where it ended before.
 abbrev pub RangeOfEach : Type 0
 RangeOfEach =
-    (q : ReorderRequest) (c : Columns) (r : Answer) (d : Columns) → Reordering q c r d → number_said r ≡ 0
+    (q : ReorderRequest) (c : Columns) (r : Answer) (d : Columns) → Reordering q c r d → said r ≡ 0
     → Rising (part q c)
     → ranges_said r
     ≡ spanned q.start (q.start + beneath 220 (part q c)) (lead 220 (part q c))

@@ -4,18 +4,18 @@
 -- Assumes nothing.
 use Rattle.std.specs.Prelude.{◌≡◌, Bool, true, false, cond, not, List, [], ◌∷◌, ◌++◌, map, reverse, ◌⊎◌, ℕ, ◌+◌, ◌<◌, length, replicate, pos}
 use Rattle.laws.specs.Lists.{those, Past}
+use Rattle.refusals.specs.Numbers.{said}
 use Rattle.refusals.specs.Promises.{Kept}
 use Rattle.letters.specs.Actions.{repeating}
 use Rattle.runs.specs.declared.Tile.{Tile}
 use Rattle.runs.specs.Records.{Record, Columns, record_at, listed, line_of, kept, put}
 use Rattle.runs.specs.Runs.{acts, is_tile, is_plain, copies_of}
 use Rattle.runs.specs.Stretched.{in_order, work, stretched, records_added}
-use Rattle.stretching.specs.declared.Answer.{Answer}
-use Rattle.stretching.specs.Stretching.{StretchRequest, stretched_limit, stretch_rows, number_said, length_said, Stretching}
+use Rattle.stretching.specs.Stretching.{StretchRequest, stretched_limit, stretch_rows, Answer, length_said, Stretching}
 
 -- What every call promises, of this one: one answer; a refusal alters nothing and answers a length of 0; the smallest number that applies is given.
 abbrev pub Promised : Type 0
-Promised = Kept Stretching number_said (stretch_rows stretched_limit) (λ r _. length_said r ≡ 0)
+Promised = Kept Stretching said (stretch_rows stretched_limit) (λ r _. length_said r ≡ 0)
 
 -- ---- the output
 -- Output past the answered length is untouched, in each column: all of it, where a request is refused.
@@ -38,21 +38,21 @@ records n c = listed (record_at c) n
 -- A line of which nothing was recorded is given as it is; so is one that has no tile.
 abbrev pub GivenAsItIs : Type 0
 GivenAsItIs =
-    (q : StretchRequest) (output : Columns) (r : Answer) (left : Columns) → Stretching q output r left → number_said r ≡ 0
+    (q : StretchRequest) (output : Columns) (r : Answer) (left : Columns) → Stretching q output r left → said r ≡ 0
     → (q.recorded ≡ false) ⊎ (those is_tile (line_of q.line) ≡ [])
     → (length_said r ≡ length q.line.actions) × (records (length_said r) left ≡ line_of q.line)
 
 -- A line of which something was recorded grows by copies × tiles, summed over its runs, and by nothing else.
 abbrev pub CountAdded : Type 0
 CountAdded =
-    (q : StretchRequest) (output : Columns) (r : Answer) (left : Columns) → Stretching q output r left → number_said r ≡ 0
+    (q : StretchRequest) (output : Columns) (r : Answer) (left : Columns) → Stretching q output r left → said r ≡ 0
     → q.recorded ≡ true → length_said r ≡ length q.line.actions + records_added false (work q.rtl q.line)
 
 -- ---- an accepted request: which records
 -- The records that are no tiles are those of the line, in their order, with all their numbers.
 abbrev pub OthersStay : Type 0
 OthersStay =
-    (q : StretchRequest) (output : Columns) (r : Answer) (left : Columns) → Stretching q output r left → number_said r ≡ 0
+    (q : StretchRequest) (output : Columns) (r : Answer) (left : Columns) → Stretching q output r left → said r ≡ 0
     → those is_plain (records (length_said r) left) ≡ those is_plain (line_of q.line)
 
 -- how often a record stands in the output whose run is copied so often: a repeating tile once and for each copy, any other record once
@@ -70,19 +70,19 @@ repeated inside copies (r ∷ rs) =
 -- Glyph, width, category, ignorable and action are those of the line's records, in their order: each record once, and a repeating tile as often again as its run has copies.
 abbrev pub CopiesKeep : Type 0
 CopiesKeep =
-    (q : StretchRequest) (output : Columns) (r : Answer) (left : Columns) → Stretching q output r left → number_said r ≡ 0
+    (q : StretchRequest) (output : Columns) (r : Answer) (left : Columns) → Stretching q output r left → said r ≡ 0
     → q.recorded ≡ true → map kept (in_order q.rtl (records (length_said r) left)) ≡ repeated false 0 (work q.rtl q.line)
 
 -- In particular, each record of the output has these five of some record of the line.
 abbrev pub FromTheLine : Type 0
 FromTheLine =
-    (q : StretchRequest) (output : Columns) (r : Answer) (left : Columns) → Stretching q output r left → number_said r ≡ 0
+    (q : StretchRequest) (output : Columns) (r : Answer) (left : Columns) → Stretching q output r left → said r ≡ 0
     → (i : ℕ) → i < length_said r → (j : ℕ) × (j < length q.line.actions) × (kept (record_at left i) ≡ kept (record_at q.line j))
 
 -- Where something was recorded, each tile of the output has advance 0.
 abbrev pub RunsHaveNoAdvance : Type 0
 RunsHaveNoAdvance =
-    (q : StretchRequest) (output : Columns) (r : Answer) (left : Columns) → Stretching q output r left → number_said r ≡ 0
+    (q : StretchRequest) (output : Columns) (r : Answer) (left : Columns) → Stretching q output r left → said r ≡ 0
     → q.recorded ≡ true → (i : ℕ) → i < length_said r → is_tile (record_at left i) ≡ true → (record_at left i).advance ≡ pos 0
 
 -- ---- the two directions

@@ -3,46 +3,30 @@
 
 ghost use Rattle.std.specs.Prelude.{◌≡◌, ◌≤◌};
 ghost use Rattle.refusals.specs.Columns.{line_limit};
-ghost use Rattle.fitting.specs.Saturating.{clamped, sat_add_lem, sat_sub_lem};
+ghost use Rattle.fitting.specs.Saturating.{sat_add_lem, sat_sub_lem};
 ghost use Rattle.fitting.specs.Fit.{count, loose_fit, fit_of};
-
-// The nearest number of 32 bits.
-fn clamp(s: i64) -> i32
-    ensures { result ≡ clamped s }
-{
-    if s > 2147483647 {
-        return 2147483647;
-    }
-    if s < -2147483648 {
-        return -2147483648;
-    }
-    s as i32
-}
 
 pub fn sat_add(a: i32, b: i32) -> i32
     ensures { result ≡ sat_add_lem a b }
 {
-    clamp((a as i64) + (b as i64))
+    a.saturating_add(b)
 }
 
 pub fn sat_sub(a: i32, b: i32) -> i32
     ensures { result ≡ sat_sub_lem a b }
 {
-    clamp((a as i64) - (b as i64))
+    a.saturating_sub(b)
 }
 
 // A number as a count: 0 for one below 0.
 fn count_of(x: i32) -> usize
     ensures { result ≡ count x }
 {
-    if x < 0 {
-        return 0;
-    }
-    x as usize
+    usize::try_from(x).unwrap_or(0)
 }
 
 // How tiles fill a room: how often each is copied, by how much each copy overlaps, and where the offsets start.
-#[derive(Clone, Copy)]
+#[derive(Clone, Copy, Debug, PartialEq, Eq)]
 pub struct Fit {
     pub copies: usize,
     pub overlap: i32,
@@ -54,7 +38,7 @@ fn loose(room: i32, copies: usize) -> Fit
     ensures { result ≡ loose_fit room copies }
 {
     Fit {
-        copies: copies,
+        copies,
         overlap: 0,
         start: room / 2,
     }

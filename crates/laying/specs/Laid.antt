@@ -34,5 +34,5 @@ pub record Keepable (k s : ℕ) (line : Columns) (m at : ℕ) (output : Columns)
   pub room : Roomy m output
 
 -- these records of the line, laid in the output
-abbrev pub PartKept : Bool → ℕ → ℕ → Both Columns Columns → ℕ → ℕ → Both Columns Columns → Type 0
-PartKept rtl k s line m at output = LaidIn rtl m at (take s (drop k (work rtl line.entry))) output
+abbrev pub PartKept : Bool → ℕ → ℕ → Columns → ℕ → ℕ → Both Columns Columns → Type 0
+PartKept rtl k s line m at output = LaidIn rtl m at (take s (drop k (work rtl line))) output

@@ -1,8 +1,10 @@
 // Laying: records of a line copied to where they come in the lent output.
 #![tactic(auto)]
 
-ghost use Rattle.runs.specs.Records.{columns_now, columns_lent, columns_mut_now, columns_mut_lent};
+ghost use Rattle.runs.specs.Records.{columns_read, columns_mut_now, columns_mut_lent};
 ghost use Rattle.laying.specs.Laid.{Keepable, PartKept};
+
+use runs::Line;
 
 // Fewer records than this are copied record by record, which takes fewer instructions then.
 const FEW: usize = 8;
@@ -12,13 +14,7 @@ pub fn keep(
     rtl: bool,
     k: usize,
     s: usize,
-    glyphs: &[u32],
-    widths: &[i32],
-    categories: &[u8],
-    ignorables: &[u8],
-    actions: &[u8],
-    advances: &[i32],
-    offsets: &[i32],
+    line: Line<'_>,
     m: usize,
     at: usize,
     to_glyphs: &mut [u32],
@@ -29,26 +25,18 @@ pub fn keep(
     to_advances: &mut [i32],
     to_offsets: &mut [i32],
 )
-    requires { Keepable k s
-        (columns_now glyphs widths categories ignorables actions advances offsets)
+    requires { Keepable k s (columns_read line)
         m at (columns_mut_now to_glyphs to_widths to_categories to_ignorables to_actions to_advances to_offsets) }
-    ensures { PartKept rtl k s
-        (columns_lent glyphs widths categories ignorables actions advances offsets)
+    ensures { PartKept rtl k s (columns_read line.entry)
         m at (columns_mut_lent to_glyphs to_widths to_categories to_ignorables to_actions to_advances to_offsets) }
 {
-    let i = runs::part(rtl, actions.len(), k, s);
+    let i = runs::part(rtl, line.actions.len(), k, s);
     let o = runs::part(rtl, m, at, s);
     if s < FEW {
         copying::copy_records(
             i,
             s,
-            glyphs,
-            widths,
-            categories,
-            ignorables,
-            actions,
-            advances,
-            offsets,
+            line,
             o,
             to_glyphs,
             to_widths,
@@ -62,13 +50,7 @@ pub fn keep(
         copying::copy_columns(
             i,
             s,
-            glyphs,
-            widths,
-            categories,
-            ignorables,
-            actions,
-            advances,
-            offsets,
+            line,
             o,
             to_glyphs,
             to_widths,

@@ -16,9 +16,8 @@ use Rattle.laws.proofs.RowLaws.{first-none}
 use Rattle.laws.proofs.TestLaws.{neither}
 use Rattle.laws.proofs.PartLaws.{take-parts, slice_parts, drop-parts, slice_mid}
 use Rattle.refusals.specs.Columns.{line_limit}
-use Rattle.refusals.specs.declared.Verdict.{Verdict}
-use Rattle.refusals.specs.declared.Verdict.TheVariants.{Accepted, Refused}
-use Rattle.refusals.specs.Numbers.{said}
+use Rattle.std.specs.Prelude.{Ok, Err}
+use Rattle.refusals.specs.Numbers.{Verdict, said}
 use Rattle.refusals.proofs.VerdictLaws.{same-said}
 use Rattle.blocks.specs.Marks.{Mark, marks, codes_of, classes_of}
 use Rattle.blocks.proofs.MarkLaws.{length-marks, codes-marks, classes-marks, marks-columns}
@@ -26,10 +25,8 @@ use Rattle.blocks.proofs.BlockLaws.{marks_mid, marks-put}
 use Rattle.marks.specs.declared.Range.{Range}
 use Rattle.marks.specs.declared.Merged.{Merged}
 use Rattle.marks.specs.declared.Merged.TheVariants.{Nothing, One, Two}
-use Rattle.marks.specs.declared.Answer.{Answer}
-use Rattle.marks.specs.declared.Answer.TheVariants.{Reordered}
 use Rattle.marks.specs.Passes.{Span, Over, passes, reorder_classes, new_class_lem}
-use Rattle.marks.specs.Reordered.{ReorderRequest, Columns, columns_of, number_said, ranges_said, line, part, new_part, new_line, reordered, reorder_refusal}
+use Rattle.marks.specs.Reordered.{ReorderRequest, Columns, columns_of, Answer, ranges_said, line, part, new_part, new_line, reordered, reorder_refusal}
 use Rattle.marks.proofs.PassLaws.{length-passes}
 
 -- ---- an answer is known by what it says
@@ -43,26 +40,26 @@ merged_of (s ∷ []) = One (range_of s)
 merged_of (s ∷ t ∷ more) = Two (range_of s) (range_of t)
 
 verdict_of : Answer → Verdict
-verdict_of (Reordered m) = Accepted
-verdict_of (Answer.Refused k) = Refused k
+verdict_of (Ok m) = Ok tt
+verdict_of (Err k) = Err k
 
 answer_of : Merged → Verdict → Answer
-answer_of m Accepted = Reordered m
-answer_of m (Refused k) = Answer.Refused k
+answer_of m (Ok u) = Ok m
+answer_of m (Err k) = Err k
 
-said_verdict : (r : Answer) → said (verdict_of r) ≡ number_said r
+said_verdict : (r : Answer) → said (verdict_of r) ≡ said r
 unfolding verdict_of
-said_verdict (Reordered m) = refl
-said_verdict (Answer.Refused k) = refl
+said_verdict (Ok m) = refl
+said_verdict (Err k) = refl
 
 read_back : (r : Answer) → answer_of (merged_of (ranges_said r)) (verdict_of r) ≡ r
 unfolding range_of merged_of verdict_of answer_of
-read_back (Reordered Nothing) = refl
-read_back (Reordered (One a)) = refl
-read_back (Reordered (Two a b)) = refl
-read_back (Answer.Refused k) = refl
+read_back (Ok Nothing) = refl
+read_back (Ok (One a)) = refl
+read_back (Ok (Two a b)) = refl
+read_back (Err k) = refl
 
-pub same_answer : (r u : Answer) → number_said r ≡ number_said u → ranges_said r ≡ ranges_said u → r ≡ u
+pub same_answer : (r u : Answer) → said r ≡ said u → ranges_said r ≡ ranges_said u → r ≡ u
 same_answer r u n e =
     sym (read_back r) ∙ ap₂ answer_of (ap merged_of e) (same-said (verdict_of r) (verdict_of u) (said_verdict r ∙ n ∙ sym (said_verdict u))) ∙ read_back u
 

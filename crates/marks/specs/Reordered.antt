@@ -1,13 +1,14 @@
 -- The call that reorders marks: `ReorderRequest` what is asked for; `Columns` what is lent; `reorder_request`, `columns_of` these from a call's parameters, `marks_lent` as an `ensures` has them, `classes_lent` where only the classes may be written; `ReorderOutcome`, `reorder_outcome` what is there afterwards; `line`, `part`, `new_part`, `new_line`, `reordered`, `ranges_of` what reordering
--- gives; `rows_of`, `reorder_rows`, `reorder_refusal` when it is refused, and with which number; `span`, `listed`, `number_said`, `ranges_said` what an answer says; `reorder_after`, `Reordering` what the call answers
+-- gives; `rows_of`, `reorder_rows`, `reorder_refusal` when it is refused, and with which number; `Answer` what the call answers; `span`, `listed`, `ranges_said` what an answer says; `reorder_after`, `Reordering` what the call answers
 -- and leaves, of every input.
 -- Assumes nothing.
-use Rattle.std.specs.Prelude.{◌≡◌, not, ◌||◌, List, [], ◌∷◌, ◌++◌, ℕ, eqb, ltb, length, take, drop}
+use Rattle.std.specs.Prelude.{◌≡◌, not, ◌||◌, List, [], ◌∷◌, ◌++◌, ℕ, eqb, ltb, length, take, drop, Result, Ok, Err}
 use Rattle.std.proofs.Math.Seq.{slice}
 use denote.Triple.Both.{Both}
 use Rattle.laws.specs.Lent.{Borrowed, BorrowedMut}
 use Rattle.laws.specs.Rows.{Row, Given, first}
-use Rattle.refusals.specs.Numbers.{number_of}
+use Rattle.refusals.specs.declared.Refusal.{Refusal}
+use Rattle.refusals.specs.Numbers.{said}
 use Rattle.refusals.specs.Columns.{line_limit}
 use Rattle.refusals.specs.Left.{Left, After, leaves}
 use Rattle.blocks.specs.Marks.{Mark, marks, codes_of, classes_of}
@@ -15,8 +16,6 @@ use Rattle.marks.specs.Passes.{Span, Over, reorder_classes, new_class_lem, passe
 use Rattle.marks.specs.declared.Range.{Range}
 use Rattle.marks.specs.declared.Merged.{Merged}
 use Rattle.marks.specs.declared.Merged.TheVariants.{Nothing, One, Two}
-use Rattle.marks.specs.declared.Answer.{Answer}
-use Rattle.marks.specs.declared.Answer.TheVariants.{Reordered, Refused}
 
 -- the part from start to end, and the two lent class numbers
 pub record ReorderRequest : Type 0 where
@@ -105,13 +104,13 @@ listed Nothing = []
 listed (One a) = span a ∷ []
 listed (Two a b) = span a ∷ span b ∷ []
 
-abbrev pub number_said : Answer → ℕ
-number_said (Reordered m) = 0
-number_said (Refused k) = number_of k
+-- the ranges, or why the call is refused
+abbrev pub Answer : Type 0
+Answer = Result Merged Refusal
 
 abbrev pub ranges_said : Answer → List Span
-ranges_said (Reordered m) = listed m
-ranges_said (Refused k) = []
+ranges_said (Ok m) = listed m
+ranges_said (Err k) = []
 
 -- the call: a refusal gives its number, no range, and leaves the columns as they were
 abbrev pub reorder_after : ReorderRequest → Columns → Left ReorderOutcome
@@ -119,4 +118,4 @@ reorder_after q c = leaves (reorder_refusal q c) (reorder_outcome [] c) (reorder
 
 -- the statement of `reorder_modifier_combining_marks`: asked for q on the columns c, it may answer r and leave the columns d
 abbrev pub Reordering : ReorderRequest → Columns → Answer → Columns → Type 0
-Reordering q c r d = After (number_said r) (reorder_outcome (ranges_said r) d) ≡ reorder_after q c
+Reordering q c r d = After (said r) (reorder_outcome (ranges_said r) d) ≡ reorder_after q c

@@ -9,53 +9,24 @@ ghost use Rattle.refusals.specs.Columns.{line_limit};
 ghost use Rattle.blocks.specs.Marks.{mark};
 ghost use Rattle.marks.specs.Modifiers.{modifier};
 ghost use Rattle.marks.specs.Passes.{Over, reorder_classes, new_class_lem, moves, passes, ranges, numbered};
-ghost use Rattle.marks.specs.Reordered.{reorder_request, classes_lent, marks_lent, line, listed, rows_of, number_said, ranges_said, Reordering};
+ghost use Rattle.marks.specs.Reordered.{reorder_request, classes_lent, marks_lent, line, listed, rows_of, Reordering};
 
 use letters::Code;
 use refusals::{Refusal, Verdict};
 
 // A range of places, to the one before `to`.
-#[derive(Clone, Copy)]
+#[derive(Clone, Copy, Debug, PartialEq, Eq)]
 pub struct Range {
     pub from: usize,
     pub to: usize,
 }
 
 // The ranges that belong to one cluster now, in their order.
-#[derive(Clone, Copy)]
+#[derive(Clone, Copy, Debug, PartialEq, Eq)]
 pub enum Merged {
     Nothing,
     One(Range),
     Two(Range, Range),
-}
-
-// What the call answers.
-#[derive(Clone, Copy)]
-pub enum Answer {
-    Reordered(Merged),
-    Refused(Refusal),
-}
-
-impl Answer {
-    // Document 01's number, 0 for an accepted call.
-    pub fn number(self) -> u8
-        ensures { result ≡ number_said self }
-    {
-        match self {
-            Answer::Reordered(_) => 0,
-            Answer::Refused(refusal) => refusal.number(),
-        }
-    }
-
-    // The ranges: a refused call has none.
-    pub fn merged(self) -> Merged
-        ensures { listed result ≡ ranges_said self }
-    {
-        match self {
-            Answer::Reordered(merged) => merged,
-            Answer::Refused(_) => Merged::Nothing,
-        }
-    }
 }
 
 // UTR 53's modifier combining marks.
@@ -79,15 +50,13 @@ const MODIFIER_COMBINING_MARKS: [u32; 14] = [
 // The classes of the two passes.
 const CLASSES: [u8; 2] = [220, 230];
 
-// The mark is one of the fourteen. The whole list is searched: the compiler makes tests of single bits of that.
+// The mark is one of the fourteen. The whole list is searched, and not to the first that is found as `contains` does: the compiler makes tests of single bits of that.
 fn is_modifier(code: Code) -> bool
     ensures { result ≡ modifier code.0 }
 {
     let mut found = false;
-    let mut i = 0;
-    while i < 14 {
-        found = found | (MODIFIER_COMBINING_MARKS[i] == code.0);
-        i += 1;
+    for mark in &MODIFIER_COMBINING_MARKS {
+        found |= *mark == code.0;
     }
     found
 }
@@ -96,10 +65,7 @@ fn is_modifier(code: Code) -> bool
 fn moved(code: Code, own: u8, class: u8) -> bool
     ensures { result ≡ moves class (mark code.0 own) }
 {
-    if own != class {
-        return false;
-    }
-    is_modifier(code)
+    own == class && is_modifier(code)
 }
 
 // Gives the marks of the block of a class that begins at `i` their new number, and says where the block ends.
@@ -111,15 +77,13 @@ fn number_block(codes: &[u32], classes: &mut [u8], i: usize, class: u8, new: u8)
         let rest = drop i (line c.entry) in
         line c.exit ≡ take i (line c.entry) ++ (numbered new (front (moves class) rest) ++ behind (moves class) rest) }
 {
-    let mut j = i;
-    while j < codes.len() {
+    for j in i..codes.len() {
         if !moved(Code(codes[j]), classes[j], class) {
             return j;
         }
         classes[j] = new;
-        j += 1;
     }
-    j
+    codes.len()
 }
 
 // The number that the block of a class gets.
@@ -135,7 +99,7 @@ impl Merged {
         requires { length (listed self) < 2 }
         ensures { listed result ≡ listed self ++ (Over from to ∷ []) }
     {
-        let range = Range { from: from, to: to };
+        let range = Range { from, to };
         match self {
             Merged::Nothing => Merged::One(range),
             Merged::One(first) => Merged::Two(first, range),
@@ -156,9 +120,7 @@ fn reorder(codes: &mut [u32], classes: &mut [u8], start: usize, low: u8, high: u
     let mut merged = Merged::Nothing;
     let mut from = 0;
     let mut i = 0;
-    let mut pass: usize = 0;
-    'passes: while pass < 2 {
-        let class = CLASSES[pass];
+    'passes: for &class in &CLASSES {
         loop {
             if end <= i {
                 break 'passes;
@@ -169,16 +131,13 @@ fn reorder(codes: &mut [u32], classes: &mut [u8], start: usize, low: u8, high: u
             i += 1;
         }
         let j = number_block(codes, classes, i, class, new_class(class, low, high));
-        if i != j {
-            blocks::bring(&mut codes[..j], &mut classes[..j], from, i);
-            merged = merged.with(start + from, start + j);
-            from += j - i;
-            i = j;
-            pass += 1;
-        } else {
-            // here again, so that the proof has no two ways to join behind the choice
-            pass += 1;
+        if i == j {
+            continue;
         }
+        blocks::bring(&mut codes[..j], &mut classes[..j], from, i);
+        merged = merged.with(start + from, start + j);
+        from += j - i;
+        i = j;
     }
     merged
 }
@@ -188,15 +147,15 @@ fn refused(n: usize, m: usize, start: usize, end: usize) -> Verdict
     ensures { said result ≡ first (rows_of n m start end) }
 {
     if n != m {
-        return Verdict::Refused(Refusal::Uneven);
+        return Err(Refusal::Uneven);
     }
     if refusals::LINE_LIMIT < n {
-        return Verdict::Refused(Refusal::TooLong);
+        return Err(Refusal::TooLong);
     }
     if (end < start) | (n < end) {
-        return Verdict::Refused(Refusal::Place);
+        return Err(Refusal::Place);
     }
-    Verdict::Accepted
+    Ok(())
 }
 
 // Reorders the modifier marks of a part of a line: the blocks of classes 220 and 230 go to its front and get the lent classes `low` and `high`. Says which
@@ -208,21 +167,16 @@ pub fn reorder_modifier_combining_marks(
     end: usize,
     low: u8,
     high: u8,
-) -> Answer
+) -> Result<Merged, Refusal>
     ensures { let c = marks_lent codes classes in
         Reordering (reorder_request start end low high) c.entry result c.exit }
 {
-    let verdict = refused(codes.len(), classes.len(), start, end);
-    match verdict {
-        Verdict::Refused(refusal) => Answer::Refused(refusal),
-        Verdict::Accepted => {
-            Answer::Reordered(reorder(
-                &mut codes[start..end],
-                &mut classes[start..end],
-                start,
-                low,
-                high,
-            ))
-        }
-    }
+    refused(codes.len(), classes.len(), start, end)?;
+    Ok(reorder(
+        &mut codes[start..end],
+        &mut classes[start..end],
+        start,
+        low,
+        high,
+    ))
 }

@@ -1,27 +1,15 @@
--- A run that is placed: `bare`, `bare_now`, `bare_lent`, `EvenTiles` what is lent of its line; `pieces_from` its pieces; `after` where the next piece starts; `Placeable`, `RunPlaced` what placing a run asks for and promises.
+-- A run that is placed: `EvenTiles` what it asks of its line; `pieces_from` its pieces; `after` where the next piece starts; `Placeable`, `RunPlaced` what placing a run asks for and promises.
 -- Assumes nothing.
 use Rattle.std.specs.Prelude.{◌≡◌, Bool, List, [], ◌∷◌, ℕ, ◌+◌, ◌≤◌, length, ℤ}
 use Rattle.std.proofs.Math.Seq.{slice}
 use denote.Triple.Both.{Both}
-use Rattle.laws.specs.Lent.{Slice, Borrowed}
-use Rattle.runs.specs.Records.{Columns, columns}
+use Rattle.runs.specs.Records.{Columns}
 use Rattle.runs.specs.Stretched.{work, Piece, run_pieces, next, placed}
 use Rattle.runs.specs.declared.Measured.{Measured}
 use Rattle.copying.specs.Pasted.{Roomy}
 use Rattle.laying.specs.Laid.{LaidIn}
 
--- a line of which only what copies keep is known: placing a run asks for no more
-abbrev pub bare : List ℕ → List ℤ → List ℕ → List ℕ → List ℕ → Columns
-bare glyphs widths categories ignorables actions = columns glyphs widths categories ignorables actions [] []
-
--- the same from the parameters of a call; these are only read
-abbrev pub bare_now : Slice ℕ → Slice ℤ → Slice ℕ → Slice ℕ → Slice ℕ → Columns
-bare_now glyphs widths categories ignorables actions = bare glyphs.now widths.now categories.now ignorables.now actions.now
-
-abbrev pub bare_lent : Borrowed ℕ → Borrowed ℤ → Borrowed ℕ → Borrowed ℕ → Borrowed ℕ → Columns
-bare_lent glyphs widths categories ignorables actions = bare_now glyphs.entry widths.entry categories.entry ignorables.entry actions.entry
-
--- its columns are of one length
+-- the columns that copies keep are of one length
 pub record EvenTiles (c : Columns) : Type 0 where
   pub tile_glyphs : length c.glyphs ≡ length c.actions
   pub tile_widths : length c.widths ≡ length c.actions

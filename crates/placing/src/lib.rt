@@ -3,14 +3,14 @@
 
 ghost use Rattle.std.specs.Prelude.{◌≡◌, cond, ◌+◌, ◌≤◌, eqb};
 ghost use Rattle.letters.specs.Actions.{repeating};
-ghost use Rattle.runs.specs.Records.{columns_mut_now, columns_mut_lent};
+ghost use Rattle.runs.specs.Records.{columns_read, columns_mut_now, columns_mut_lent};
 ghost use Rattle.runs.specs.Stretched.{moved as moved_by, pieces, placed};
 ghost use Rattle.copying.specs.Pasted.{Roomy};
 ghost use Rattle.laying.specs.Laid.{LaidIn};
-ghost use Rattle.placing.specs.Placed.{after, bare_now, bare_lent, Placeable, RunPlaced};
+ghost use Rattle.placing.specs.Placed.{after, Placeable, RunPlaced};
 
 use letters::{Action, Glyph};
-use runs::{Measured, Tile};
+use runs::{Line, Measured, Tile};
 
 // Where the next tile starts, once one of this width is placed that overlaps by so much.
 fn moved(rtl: bool, x: i32, width: i32, lap: i32) -> i32
@@ -58,8 +58,7 @@ fn place_tile(
     let mut x = start;
     // a copy overlaps, the tile itself does not
     let mut lap: i32 = 0;
-    let mut j = at;
-    while j < end {
+    for j in at..end {
         let o = runs::part(rtl, m, j, 1);
         let y = moved(rtl, x, width, lap);
         let offset = offset_of(rtl, x, y);
@@ -72,7 +71,6 @@ fn place_tile(
         to_offsets[o] = offset;
         x = y;
         lap = overlap;
-        j += 1;
     }
     x
 }
@@ -93,11 +91,7 @@ pub fn place_run(
     rtl: bool,
     k: usize,
     run: Measured,
-    glyphs: &[u32],
-    widths: &[i32],
-    categories: &[u8],
-    ignorables: &[u8],
-    actions: &[u8],
+    line: Line<'_>,
     m: usize,
     at: usize,
     to_glyphs: &mut [u32],
@@ -109,29 +103,28 @@ pub fn place_run(
     to_offsets: &mut [i32],
 ) -> usize
     requires { Placeable rtl k run
-        (bare_now glyphs widths categories ignorables actions)
+        (columns_read line)
         m at (columns_mut_now to_glyphs to_widths to_categories to_ignorables to_actions to_advances to_offsets) }
     ensures { RunPlaced rtl k run
-        (bare_lent glyphs widths categories ignorables actions)
+        (columns_read line.entry)
         m at result (columns_mut_lent to_glyphs to_widths to_categories to_ignorables to_actions to_advances to_offsets) }
 {
-    let n = actions.len();
+    let n = line.actions.len();
     let past = run.past;
     let copies = run.copies;
     let overlap = run.overlap;
     let mut x = run.start;
     let mut next = at;
-    let mut i = k;
-    while i < past {
+    for i in k..past {
         let p = runs::part(rtl, n, i, 1);
-        let action = actions[p];
+        let action = line.actions[p];
         let times = times_of(action, copies);
-        let width = runs::at(widths, p);
+        let width = runs::at(line.widths, p);
         let tile = Tile {
-            glyph: Glyph(glyphs[p]),
+            glyph: Glyph(line.glyphs[p]),
             width,
-            category: categories[p],
-            ignorable: ignorables[p],
+            category: line.categories[p],
+            ignorable: line.ignorables[p],
             action,
         };
         x = place_tile(
@@ -151,7 +144,6 @@ pub fn place_run(
             to_offsets,
         );
         next += 1 + times;
-        i += 1;
     }
     next
 }

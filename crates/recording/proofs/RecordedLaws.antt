@@ -12,21 +12,21 @@ use Rattle.laws.specs.Rows.{Given}
 use Rattle.laws.proofs.RowLaws.{first-none}
 use Rattle.laws.proofs.TestLaws.{neither}
 use Rattle.refusals.specs.Columns.{line_limit}
-use Rattle.refusals.specs.declared.Verdict.TheVariants.{Refused}
+use Rattle.refusals.specs.declared.Refusal.{Refusal}
+use Rattle.std.specs.Prelude.{Ok, Err}
+use Rattle.refusals.specs.Numbers.{said}
 use Rattle.refusals.proofs.VerdictLaws.{same-said, refused_number}
-use Rattle.recording.specs.declared.Answer.{Answer}
-use Rattle.recording.specs.declared.Answer.TheVariants.{Recorded}
-use Rattle.recording.specs.Recorded.{RecordRequest, RecordOutcome, record_outcome, some, new_actions, recorded, record_refusal, number_said, recorded_said}
+use Rattle.recording.specs.Recorded.{RecordRequest, RecordOutcome, record_outcome, some, new_actions, recorded, record_refusal, Answer, recorded_said}
 
 -- ---- an answer is known by what it says
-pub same_answer : (r u : Answer) → number_said r ≡ number_said u → recorded_said r ≡ recorded_said u → r ≡ u
-same_answer (Recorded any) (Recorded other) n e = ap Recorded e
-same_answer (Recorded any) (Answer.Refused k) n e = absurd (refused_number k (sym n))
-same_answer (Answer.Refused k) (Recorded any) n e = absurd (refused_number k n)
-same_answer (Answer.Refused k) (Answer.Refused l) n e =
-    let v = same-said (Refused k) (Refused l) n in
+pub same_answer : (r u : Answer) → said r ≡ said u → recorded_said r ≡ recorded_said u → r ≡ u
+same_answer (Ok any) (Ok other) n e = ap (λ (b : Bool). Ok b) e
+same_answer (Ok any) (Err k) n e = absurd (refused_number k (sym n))
+same_answer (Err k) (Ok any) n e = absurd (refused_number k n)
+same_answer (Err k) (Err l) n e =
+    let v = same-said (Err k) (Err l) n in
     let same : k ≡ l = cc in
-    ap Answer.Refused same
+    ap (λ (x : Refusal). Err x) same
 
 -- ---- a request that is not refused
 -- of the rows that recording uses, none applies

@@ -1,15 +1,14 @@
 -- Recording `stch` (document 01, "Stretching"): `RecordRequest`, `record_request` what is asked for; `RecordOutcome`, `record_outcome` what is there afterwards; `some` that a yes-or-no column says yes; `tile`, `new_action_lem`, `new_actions` the
--- action that a record gets; `recorded` what recording gives; `rows_of`, `record_rows`, `record_refusal` when it is refused, and with which number; `number_said`, `recorded_said` what an answer says;
+-- action that a record gets; `recorded` what recording gives; `rows_of`, `record_rows`, `record_refusal` when it is refused, and with which number; `Answer` what the call answers, `recorded_said` what it says;
 -- `record_after`, `Recording` what the call answers and leaves, of every input.
 -- Assumes nothing.
-use Rattle.std.specs.Prelude.{◌≡◌, Bool, false, cond, not, ◌||◌, List, [], ◌∷◌, ℕ, ◌%◌, eqb, ltb, length}
+use Rattle.std.specs.Prelude.{◌≡◌, Bool, false, cond, not, ◌||◌, List, [], ◌∷◌, ℕ, ◌%◌, eqb, ltb, length, Result, Ok, Err}
 use Rattle.laws.specs.Rows.{Row, Given, first}
-use Rattle.refusals.specs.Numbers.{number_of}
+use Rattle.refusals.specs.declared.Refusal.{Refusal}
+use Rattle.refusals.specs.Numbers.{said}
 use Rattle.refusals.specs.Columns.{line_limit, yes}
 use Rattle.refusals.specs.Left.{Left, After, leaves}
 use Rattle.letters.specs.Actions.{fixed, repeating}
-use Rattle.recording.specs.declared.Answer.{Answer}
-use Rattle.recording.specs.declared.Answer.TheVariants.{Recorded, Refused}
 
 -- the mask of `stch`, which records are multiplied, and their component numbers
 pub record RecordRequest : Type 0 where
@@ -68,14 +67,13 @@ record_rows q actions = rows_of (length q.multiplied) (length q.components) (len
 unfoldable pub record_refusal : RecordRequest → List ℕ → ℕ
 record_refusal q actions = first (record_rows q actions)
 
--- what an answer says; a refusal says that nothing was recorded
-abbrev pub number_said : Answer → ℕ
-number_said (Recorded any) = 0
-number_said (Refused k) = number_of k
+-- whether any record was recorded, or why the call is refused; a refusal says that nothing was recorded
+abbrev pub Answer : Type 0
+Answer = Result Bool Refusal
 
 abbrev pub recorded_said : Answer → Bool
-recorded_said (Recorded any) = any
-recorded_said (Refused k) = false
+recorded_said (Ok any) = any
+recorded_said (Err k) = false
 
 -- the call: a refusal gives its number, and leaves the actions as they were
 abbrev pub record_after : RecordRequest → List ℕ → Left RecordOutcome
@@ -83,4 +81,4 @@ record_after q actions = leaves (record_refusal q actions) (record_outcome false
 
 -- the statement of `record_stch`: asked for q on a column of actions, it may answer r and leave the column `left`
 abbrev pub Recording : RecordRequest → List ℕ → Answer → List ℕ → Type 0
-Recording q actions r left = After (number_said r) (record_outcome (recorded_said r) left) ≡ record_after q actions
+Recording q actions r left = After (said r) (record_outcome (recorded_said r) left) ≡ record_after q actions

@@ -1,25 +1,16 @@
--- What measuring answers, of the records from a place on in the order of the work: `measures_now`, `measures_lent` the columns that are measured, from the parameters of a call; `Even` that they are of one length; `Lent` columns that a line has; `sums_of` a run's sums; `word_sum` a word's; `measured_of` a run with the word before it;
+-- What measuring answers, of the records from a place on in the order of the work: `Even` that the columns which are measured are of one length; `Lent` columns that a line has; `sums_of` a run's sums; `word_sum` a word's; `measured_of` a run with the word before it;
 -- `NextRun`, `SumsAt`, `WordAt`, `MeasuredAt`, `StretchedLength` what the calls answer: where the next run begins, each of these three, and how many records the stretched line has.
 -- Assumes nothing.
-use Rattle.std.specs.Prelude.{◌≡◌, Bool, false, List, [], map, ℕ, ◌+◌, length, drop, ℤ, pos}
-use Rattle.laws.specs.Lent.{Slice, Borrowed}
+use Rattle.std.specs.Prelude.{◌≡◌, Bool, false, List, map, ℕ, ◌+◌, length, drop, ℤ, pos}
 use Rattle.laws.specs.Lists.{front}
 use Rattle.letters.specs.Actions.{fixed, repeating}
-use Rattle.runs.specs.Records.{Record, Columns, columns}
+use Rattle.runs.specs.Records.{Record, Columns}
 use Rattle.runs.specs.Runs.{in_word, run, plain, sum, width_of, tiles, copies_of, overlap_of, start_of}
 use Rattle.runs.specs.Stretched.{work, worked}
 use Rattle.runs.specs.declared.Sums.{Sums}
 use Rattle.runs.specs.declared.Measured.{Measured}
 
--- a line of which only what is measured is known, from the parameters of a call; these are only read
-abbrev pub measures_now : Slice ℤ → Slice ℕ → Slice ℕ → Slice ℕ → Slice ℤ → Columns
-measures_now widths categories ignorables actions advances = columns [] widths.now categories.now ignorables.now actions.now advances.now []
-
-abbrev pub measures_lent : Borrowed ℤ → Borrowed ℕ → Borrowed ℕ → Borrowed ℕ → Borrowed ℤ → Columns
-measures_lent widths categories ignorables actions advances =
-    measures_now widths.entry categories.entry ignorables.entry actions.entry advances.entry
-
--- its columns are of one length
+-- the columns that are measured are of one length
 pub record Even (c : Columns) : Type 0 where
   pub even_widths : length c.widths ≡ length c.actions
   pub even_categories : length c.categories ≡ length c.actions

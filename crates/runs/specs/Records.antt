@@ -1,8 +1,9 @@
--- A line that is stretched: `Record` the numbers of a record; `kept`, `put` those that a copy keeps; `Columns`, `columns` the same of all records, column by column; `columns_now`, `columns_lent` these from the parameters of a call; `columns_mut_now`, `columns_mut_lent` the same of parameters that the call may write (`&mut`); `record_at`, `listed`, `line_of` the records of a line's columns; `columns_of` the columns of records.
+-- A line that is stretched: `Record` the numbers of a record; `kept`, `put` those that a copy keeps; `Columns`, `columns` the same of all records, column by column; `columns_read` these from a line that is only read; `columns_now`, `columns_lent` from the parameters of a call; `columns_mut_now`, `columns_mut_lent` the same of parameters that the call may write (`&mut`); `record_at`, `listed`, `line_of` the records of a line's columns; `columns_of` the columns of records.
 -- Assumes nothing.
 use Rattle.std.specs.Prelude.{List, [], ◌∷◌, map, ℕ, zero, suc, length, get_or, ℤ, pos}
 use denote.Triple.Both.{Both}
 use Rattle.laws.specs.Lent.{Slice, Borrowed, SliceMut, BorrowedMut}
+use Rattle.runs.specs.declared.Line.{Line}
 use Rattle.runs.specs.declared.Tile.{Tile}
 
 -- "The line's columns are glyph, width, category, ignorable, action, advance, offset"
@@ -50,6 +51,11 @@ columns glyphs widths categories ignorables actions advances offsets = record {
   advances = advances;
   offsets = offsets;
 }
+
+-- the same from a line that is only read
+abbrev pub columns_read : Line → Columns
+columns_read line =
+    columns line.glyphs.now line.widths.now line.categories.now line.ignorables.now line.actions.now line.advances.now line.offsets.now
 
 -- the same from the parameters of a call: as a `requires` has them; and in an `ensures`, as they were lent and as they come back
 abbrev pub columns_now : Slice ℕ → Slice ℤ → Slice ℕ → Slice ℕ → Slice ℕ → Slice ℤ → Slice ℤ → Columns

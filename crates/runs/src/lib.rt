@@ -7,9 +7,22 @@ ghost use Rattle.refusals.specs.Columns.{line_limit, at_most};
 ghost use Rattle.letters.specs.Actions.{repeating};
 ghost use Rattle.runs.specs.Runs.{tile_action, word_categories, word_numbers};
 ghost use Rattle.runs.specs.Stretched.{part_of};
-ghost use Rattle.runs.specs.Measured.{measures_now, measures_lent, Even, NextRun, SumsAt, WordAt, MeasuredAt, StretchedLength};
+ghost use Rattle.runs.specs.Records.{columns_read};
+ghost use Rattle.runs.specs.Measured.{Even, NextRun, SumsAt, WordAt, MeasuredAt, StretchedLength};
 
 use letters::{Action, Category, Glyph};
+
+// The columns of a line, which are only read.
+#[derive(Clone, Copy)]
+pub struct Line<'a> {
+    pub glyphs: &'a [u32],
+    pub widths: &'a [i32],
+    pub categories: &'a [u8],
+    pub ignorables: &'a [u8],
+    pub actions: &'a [u8],
+    pub advances: &'a [i32],
+    pub offsets: &'a [i32],
+}
 
 // What a copy of a record keeps.
 #[derive(Clone, Copy)]
@@ -22,7 +35,7 @@ pub struct Tile {
 }
 
 // What a run comes to: the widths of its fixed tiles and of its repeating ones, how many of these it has, and the place past it.
-#[derive(Clone, Copy)]
+#[derive(Clone, Copy, Debug, PartialEq, Eq)]
 pub struct Sums {
     pub fixed: i32,
     pub repeating: i32,
@@ -31,7 +44,7 @@ pub struct Sums {
 }
 
 // A run with the word before it: the place past it, its repeating tiles, how often each is copied, by how much each copy overlaps, and where the offsets start.
-#[derive(Clone, Copy)]
+#[derive(Clone, Copy, Debug, PartialEq, Eq)]
 pub struct Measured {
     pub past: usize,
     pub tiles: usize,
@@ -81,38 +94,34 @@ pub fn next_run(rtl: bool, from: usize, actions: &[u8]) -> usize
     ensures { NextRun rtl from actions.now result }
 {
     let n = actions.len();
-    let mut k = from;
-    while k < n {
+    for k in from..n {
         // no action is above the repeating one
         if Action::FIXED.0 <= actions[part(rtl, n, k, 1)] {
             return k;
         }
-        k += 1;
     }
-    k
+    n
 }
 
 // The run that begins at a place.
-fn sums_at(rtl: bool, from: usize, widths: &[i32], actions: &[u8]) -> Sums
-    requires from_in_bounds { from ≤ length actions.now }
-    requires widths_len { length widths.now ≡ length actions.now }
-    ensures { SumsAt rtl from widths.now actions.now result }
+fn sums_at(rtl: bool, from: usize, line: Line<'_>) -> Sums
+    requires from_in_bounds { from ≤ length line.actions.now }
+    requires widths_len { length line.widths.now ≡ length line.actions.now }
+    ensures { let l = columns_read line.entry in
+        SumsAt rtl from l.widths l.actions result }
 {
-    let n = actions.len();
+    let n = line.actions.len();
     let mut fixed: i32 = 0;
     let mut repeating: i32 = 0;
     let mut tiles: usize = 0;
-    let mut k = from;
-    while k < n {
+    for k in from..n {
         let i = part(rtl, n, k, 1);
-        let action = actions[i];
+        let action = line.actions[i];
         if action == Action::FIXED.0 {
-            fixed = fitting::sat_add(fixed, at(widths, i));
-            k += 1;
+            fixed = fitting::sat_add(fixed, at(line.widths, i));
         } else if action == Action::REPEATING.0 {
-            repeating = fitting::sat_add(repeating, at(widths, i));
+            repeating = fitting::sat_add(repeating, at(line.widths, i));
             tiles += 1;
-            k += 1;
         } else {
             return Sums {
                 fixed,
@@ -126,7 +135,7 @@ fn sums_at(rtl: bool, from: usize, widths: &[i32], actions: &[u8]) -> Sums
         fixed,
         repeating,
         tiles,
-        past: k,
+        past: n,
     }
 }
 
@@ -141,113 +150,71 @@ fn is_tile(action: u8) -> bool
 fn is_word_category(category: u8) -> bool
     ensures { result ≡ member category word_categories }
 {
-    let mut i = 0;
-    while i < 14 {
-        if WORD_CATEGORIES[i] == category {
-            return true;
-        }
-        i += 1;
-    }
-    false
+    WORD_CATEGORIES.contains(&category)
 }
 
 // A record with these numbers belongs to a word.
 fn in_word(action: u8, category: u8, ignorable: u8) -> bool
     ensures { result ≡ word_numbers action category ignorable }
 {
-    if is_tile(action) {
-        return false;
-    }
-    if ignorable != 0 {
-        return true;
-    }
-    is_word_category(category)
+    !is_tile(action) && (ignorable != 0 || is_word_category(category))
 }
 
 // The advances together of the word that begins at a place.
-fn word_at(
-    rtl: bool,
-    from: usize,
-    categories: &[u8],
-    ignorables: &[u8],
-    actions: &[u8],
-    advances: &[i32],
-) -> i32
-    requires from_in_bounds { from ≤ length actions.now }
-    requires categories_len { length categories.now ≡ length actions.now }
-    requires ignorables_len { length ignorables.now ≡ length actions.now }
-    requires advances_len { length advances.now ≡ length actions.now }
-    ensures { WordAt rtl from categories.now ignorables.now actions.now advances.now result }
+fn word_at(rtl: bool, from: usize, line: Line<'_>) -> i32
+    requires from_in_bounds { from ≤ length line.actions.now }
+    requires categories_len { length line.categories.now ≡ length line.actions.now }
+    requires ignorables_len { length line.ignorables.now ≡ length line.actions.now }
+    requires advances_len { length line.advances.now ≡ length line.actions.now }
+    ensures { let l = columns_read line.entry in
+        WordAt rtl from l.categories l.ignorables l.actions l.advances result }
 {
-    let n = actions.len();
+    let n = line.actions.len();
     let mut sum: i32 = 0;
-    let mut k = from;
-    while k < n {
+    for k in from..n {
         let i = part(rtl, n, k, 1);
-        if in_word(actions[i], categories[i], ignorables[i]) {
-            sum = fitting::sat_add(sum, at(advances, i));
-            k += 1;
-        } else {
+        if !in_word(line.actions[i], line.categories[i], line.ignorables[i]) {
             return sum;
         }
+        sum = fitting::sat_add(sum, at(line.advances, i));
     }
     sum
 }
 
 // The run that begins at a place, with the word before it.
-pub fn measured_at(
-    rtl: bool,
-    from: usize,
-    widths: &[i32],
-    categories: &[u8],
-    ignorables: &[u8],
-    actions: &[u8],
-    advances: &[i32],
-) -> Measured
-    requires from_in_bounds { from ≤ length actions.now }
-    requires actions_len_bound { length actions.now ≤ line_limit }
-    requires even { Even (measures_now widths categories ignorables actions advances) }
-    ensures { MeasuredAt rtl from (measures_lent widths categories ignorables actions advances) result }
+pub fn measured_at(rtl: bool, from: usize, line: Line<'_>) -> Measured
+    requires from_in_bounds { from ≤ length line.actions.now }
+    requires actions_len_bound { length line.actions.now ≤ line_limit }
+    requires even { Even (columns_read line) }
+    ensures { MeasuredAt rtl from (columns_read line.entry) result }
 {
-    let run = sums_at(rtl, from, widths, actions);
-    let past = run.past;
-    let tiles = run.tiles;
-    let fixed = run.fixed;
-    let repeating = run.repeating;
-    let word = word_at(rtl, past, categories, ignorables, actions, advances);
-    let fit = fitting::fill(fitting::sat_sub(word, fixed), repeating, tiles);
-    let overlap = fit.overlap;
-    let start = fit.start;
+    let run = sums_at(rtl, from, line);
+    let word = word_at(rtl, run.past, line);
+    let fit = fitting::fill(fitting::sat_sub(word, run.fixed), run.repeating, run.tiles);
     Measured {
-        past,
-        tiles,
+        past: run.past,
+        tiles: run.tiles,
         copies: fit.copies,
-        overlap,
-        start,
+        overlap: fit.overlap,
+        start: fit.start,
     }
 }
 
 // How many records the stretched line has.
-pub fn stretched_length(
-    rtl: bool,
-    widths: &[i32],
-    categories: &[u8],
-    ignorables: &[u8],
-    actions: &[u8],
-    advances: &[i32],
-) -> usize
-    requires actions_len_bound { length actions.now ≤ line_limit }
-    requires actions_value { at_most repeating actions.now ≡ true }
-    requires even { Even (measures_now widths categories ignorables actions advances) }
-    ensures { StretchedLength rtl (measures_lent widths categories ignorables actions advances) result }
+pub fn stretched_length(rtl: bool, line: Line<'_>) -> usize
+    requires actions_len_bound { length line.actions.now ≤ line_limit }
+    requires actions_value { at_most repeating line.actions.now ≡ true }
+    requires even { Even (columns_read line) }
+    ensures { StretchedLength rtl (columns_read line.entry) result }
 {
-    let n = actions.len();
+    let n = line.actions.len();
     let mut total = n;
-    let mut k = next_run(rtl, 0, actions);
+    // from run to run, whose places are known only as they are found: no `for`
+    let mut k = next_run(rtl, 0, line.actions);
     while k < n {
-        let run = measured_at(rtl, k, widths, categories, ignorables, actions, advances);
+        let run = measured_at(rtl, k, line);
         total += run.copies * run.tiles;
-        k = next_run(rtl, run.past, actions);
+        k = next_run(rtl, run.past, line.actions);
     }
     total
 }

@@ -12,26 +12,26 @@ use Rattle.laws.specs.Rows.{Given}
 use Rattle.laws.proofs.RowLaws.{first-none}
 use Rattle.laws.proofs.TestLaws.{neither}
 use Rattle.refusals.specs.Columns.{line_limit, at_most}
-use Rattle.refusals.specs.declared.Verdict.TheVariants.{Refused}
+use Rattle.std.specs.Prelude.{Ok, Err}
+use Rattle.refusals.specs.declared.Refusal.{Refusal}
+use Rattle.refusals.specs.Numbers.{said}
 use Rattle.refusals.proofs.VerdictLaws.{same-said, refused_number}
 use Rattle.refusals.proofs.LeftLaws.{left-number, left-accepted}
 use Rattle.letters.specs.Categories.{Zs}
 use Rattle.letters.specs.Actions.{repeating}
 use Rattle.runs.specs.Records.{Columns}
 use Rattle.copying.specs.Pasted.{EvenLine, Roomy}
-use Rattle.stretching.specs.declared.Answer.{Answer}
-use Rattle.stretching.specs.declared.Answer.TheVariants.{Stretched}
-use Rattle.stretching.specs.Stretching.{stretched_limit, StretchRequest, StretchOutcome, stretch_outcome, new_line, laid_over, unequal, shorter, stretch_refusal, number_said, length_said, Stretching}
+use Rattle.stretching.specs.Stretching.{stretched_limit, StretchRequest, StretchOutcome, stretch_outcome, new_line, laid_over, unequal, shorter, stretch_refusal, Answer, length_said, Stretching}
 
 -- ---- an answer is known by what it says
-pub same_answer : (r u : Answer) → number_said r ≡ number_said u → length_said r ≡ length_said u → r ≡ u
-same_answer (Stretched n) (Stretched m) e f = ap Stretched f
-same_answer (Stretched n) (Answer.Refused k) e f = absurd (refused_number k (sym e))
-same_answer (Answer.Refused k) (Stretched n) e f = absurd (refused_number k e)
-same_answer (Answer.Refused k) (Answer.Refused l) e f =
-    let v = same-said (Refused k) (Refused l) e in
+pub same_answer : (r u : Answer) → said r ≡ said u → length_said r ≡ length_said u → r ≡ u
+same_answer (Ok n) (Ok m) e f = ap (λ (x : ℕ). Ok x) f
+same_answer (Ok n) (Err k) e f = absurd (refused_number k (sym e))
+same_answer (Err k) (Ok n) e f = absurd (refused_number k e)
+same_answer (Err k) (Err l) e f =
+    let v = same-said (Err k) (Err l) e in
     let same : k ≡ l = cc in
-    ap Answer.Refused same
+    ap (λ (x : Refusal). Err x) same
 
 -- ---- what a call leaves
 module _ (q : StretchRequest) (output : Columns) (r : Answer) (left : Columns) (x : Stretching q output r left) where
@@ -41,12 +41,12 @@ module _ (q : StretchRequest) (output : Columns) (r : Answer) (left : Columns) (
   abbrev new : StretchOutcome
   new = stretch_outcome (length (new_line q)) (laid_over (new_line q) output)
 
-  pub number-given : number_said r ≡ stretch_refusal stretched_limit q output
-  number-given = left-number (stretch_refusal stretched_limit q output) old new (number_said r) (stretch_outcome (length_said r) left) x
+  pub number-given : said r ≡ stretch_refusal stretched_limit q output
+  number-given = left-number (stretch_refusal stretched_limit q output) old new (said r) (stretch_outcome (length_said r) left) x
 
-  pub accepted-left : number_said r ≡ 0 → (left ≡ laid_over (new_line q) output) × (length_said r ≡ length (new_line q))
+  pub accepted-left : said r ≡ 0 → (left ≡ laid_over (new_line q) output) × (length_said r ≡ length (new_line q))
   accepted-left z =
-      let g = left-accepted (stretch_refusal stretched_limit q output) old new (number_said r) (stretch_outcome (length_said r) left) x z in
+      let g = left-accepted (stretch_refusal stretched_limit q output) old new (said r) (stretch_outcome (length_said r) left) x z in
       (ap (λ (o : StretchOutcome). o.output) g, ap (λ (o : StretchOutcome). o.count) g)
 
 -- ---- a request that is not refused

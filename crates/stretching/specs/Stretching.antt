@@ -1,9 +1,10 @@
 -- The call that stretches a line: `stretched_limit` how many records its answer may have; `StretchRequest`, `stretch_request` what is asked for; `Columns` (crate runs) what is lent, the line's and the output's; `StretchOutcome`, `stretch_outcome` what is there afterwards; `new_line` what stretching gives; `over`, `laid_over` where it is laid;
--- `differing`, `unequal`, `lacking`, `shorter`, `rows_of`, `stretch_rows`, `stretch_refusal` when it is refused, and with which number; `number_said`, `length_said` what an answer says; `judged`, `Judging` what is answered before anything is laid; `stretch_after`, `Stretching` what the call answers and leaves, of every input; `NewLength` the length of the new line, of some columns of the line.
+-- `differing`, `unequal`, `lacking`, `shorter`, `rows_of`, `stretch_rows`, `stretch_refusal` when it is refused, and with which number; `Answer` what the call answers, `length_said` what it says; `judged`, `Judging` what is answered before anything is laid; `stretch_after`, `Stretching` what the call answers and leaves, of every input; `NewLength` the length of the new line, of some columns of the line.
 -- Assumes nothing.
-use Rattle.std.specs.Prelude.{◌≡◌, Bool, cond, not, ◌&&◌, ◌||◌, List, [], ◌∷◌, ◌++◌, ℕ, eqb, ltb, length, drop}
+use Rattle.std.specs.Prelude.{◌≡◌, Bool, cond, not, ◌&&◌, ◌||◌, List, [], ◌∷◌, ◌++◌, ℕ, eqb, ltb, length, drop, Result, Ok, Err}
 use Rattle.laws.specs.Rows.{Row, Given, first}
-use Rattle.refusals.specs.Numbers.{number_of}
+use Rattle.refusals.specs.declared.Refusal.{Refusal}
+use Rattle.refusals.specs.Numbers.{said}
 use Rattle.refusals.specs.Columns.{line_limit, at_most}
 use Rattle.refusals.specs.Left.{Left, After, leaves}
 use Rattle.letters.specs.Categories.{Zs}
@@ -11,8 +12,6 @@ use Rattle.letters.specs.Actions.{repeating}
 use Rattle.runs.specs.Records.{Record, Columns, columns, line_of, columns_of}
 use Rattle.runs.specs.Stretched.{stretched}
 use Rattle.runs.specs.Measured.{Lent}
-use Rattle.stretching.specs.declared.Answer.{Answer}
-use Rattle.stretching.specs.declared.Answer.TheVariants.{Stretched, Refused}
 
 -- "a stretched line of over 16,384 records"
 abbrev pub stretched_limit : ℕ
@@ -104,21 +103,20 @@ stretch_rows cap q output = rows_of cap q (shorter (length (new_line q)) output)
 unfoldable pub stretch_refusal : ℕ → StretchRequest → Columns → ℕ
 stretch_refusal cap q output = first (stretch_rows cap q output)
 
--- what an answer says; a refusal has its number, and 0 for the length
-abbrev pub number_said : Answer → ℕ
-number_said (Stretched n) = 0
-number_said (Refused k) = number_of k
+-- how many records the stretched line has, or why the call is refused; a refusal says 0
+abbrev pub Answer : Type 0
+Answer = Result ℕ Refusal
 
 abbrev pub length_said : Answer → ℕ
-length_said (Stretched n) = n
-length_said (Refused k) = 0
+length_said (Ok n) = n
+length_said (Err k) = 0
 
 -- what is answered before anything is laid: the number, and the length, 0 with a refusal
 abbrev pub judged : ℕ → StretchRequest → Bool → Left ℕ
 judged cap q short = leaves (first (rows_of cap q short)) 0 (length (new_line q))
 
 abbrev pub Judging : ℕ → StretchRequest → Bool → Answer → Type 0
-Judging cap q short r = After (number_said r) (length_said r) ≡ judged cap q short
+Judging cap q short r = After (said r) (length_said r) ≡ judged cap q short
 
 -- the call under a cap: a refusal leaves the output as it was
 abbrev pub stretch_after : ℕ → StretchRequest → Columns → Left StretchOutcome
@@ -126,7 +124,7 @@ stretch_after cap q output = leaves (stretch_refusal cap q output) (stretch_outc
 
 -- the statement of `stretch`: asked for q with an output lent, it may answer r and leave the output `left`
 abbrev pub Stretching : StretchRequest → Columns → Answer → Columns → Type 0
-Stretching q output r left = After (number_said r) (stretch_outcome (length_said r) left) ≡ stretch_after stretched_limit q output
+Stretching q output r left = After (said r) (stretch_outcome (length_said r) left) ≡ stretch_after stretched_limit q output
 
 -- ---- what is answered by calls that are lent a part of that
 -- the length of the new line, of any line with these columns

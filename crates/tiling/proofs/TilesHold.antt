@@ -15,8 +15,8 @@ use Rattle.runs.specs.Runs.{is_tile, run, room, repeating_width, tiles, copies_o
 use Rattle.runs.specs.Stretched.{in_order, part_of, work, run_pieces, placed, placed_run, worked, stretched}
 use Rattle.runs.proofs.RecordLaws.{blank, get_d_listed, get_d_in_order, spot-below, order-twice, length-work, length_in_order, work-at}
 use Rattle.runs.proofs.StretchedLaws.{length-placed}
-use Rattle.stretching.specs.declared.Answer.{Answer}
-use Rattle.stretching.specs.Stretching.{StretchRequest, number_said, length_said, Stretching}
+use Rattle.refusals.specs.Numbers.{said}
+use Rattle.stretching.specs.Stretching.{StretchRequest, Answer, length_said, Stretching}
 use Rattle.demands.specs.Stretching.{records}
 use Rattle.tiling.specs.Tiles.{total, tile_first, begins, Copied, Lapped, Numbered, OneNumber, added_at, CountByPlaces, comes, OthersCome, TilesStand}
 use Rattle.demands.proofs.StretchingHolds.{count_left, records-left, line-recorded, count-added}
@@ -93,7 +93,7 @@ line-comes rtl c i k h =
     let b : i + k < length c.actions = omega (arith, h, length-parted is_tile (drop i w), length-drop i w, length-work rtl c) in
     sym (work-at rtl c (i + k) b) ∙ sym (get_or-drop i w k blank) ∙ run-first (drop i w) k h
 
-module _ (q : StretchRequest) (output : Columns) (r : Answer) (left : Columns) (x : Stretching q output r left) (z : number_said r ≡ 0) (e : q.recorded ≡ true) where
+module _ (q : StretchRequest) (output : Columns) (r : Answer) (left : Columns) (x : Stretching q output r left) (z : said r ≡ 0) (e : q.recorded ≡ true) where
   -- the output, in the order of the work
   worked-left : in_order q.rtl (records (length_said r) left) ≡ worked q.rtl false (work q.rtl q.line)
   unfolding stretched work

@@ -8,8 +8,8 @@ use Rattle.fitting.specs.Saturating.{sat_add_lem, sat_sub_lem}
 use Rattle.runs.specs.Records.{Record, Columns, record_at, kept}
 use Rattle.runs.specs.Runs.{acts, is_tile, run, room, repeating_width, tiles}
 use Rattle.runs.specs.Stretched.{work}
-use Rattle.stretching.specs.declared.Answer.{Answer}
-use Rattle.stretching.specs.Stretching.{StretchRequest, number_said, length_said, Stretching}
+use Rattle.refusals.specs.Numbers.{said}
+use Rattle.stretching.specs.Stretching.{StretchRequest, Answer, length_said, Stretching}
 
 -- ---- numbers: the repeating tiles of a run are w wide together, and each is there once and for each copy
 -- c is the number of copies: the least with which the tiles cover the room; of tiles that have no width above 0 one, if the room exceeds their width and there is a tile, else none
@@ -70,7 +70,7 @@ added_at l copies i = cond (begins l i) (copies i * tiles (drop i l)) 0
 -- A line of which something was recorded grows by copies × tiles at each place where a run begins, and by nothing else.
 abbrev pub CountByPlaces : Type 0
 CountByPlaces =
-    (q : StretchRequest) (output : Columns) (r : Answer) (left : Columns) → Stretching q output r left → number_said r ≡ 0 → q.recorded ≡ true
+    (q : StretchRequest) (output : Columns) (r : Answer) (left : Columns) → Stretching q output r left → said r ≡ 0 → q.recorded ≡ true
     → let w = work q.rtl q.line in
     (copies : ℕ → ℕ) → Numbered w copies → length_said r ≡ length q.line.actions + total (added_at w copies) (length q.line.actions)
 
@@ -82,7 +82,7 @@ comes rtl n c k = record_at c (cond rtl (n - k - 1) k)
 -- A record that is no tile comes in the output as many places later as the runs before it have added, with all its numbers.
 abbrev pub OthersCome : Type 0
 OthersCome =
-    (q : StretchRequest) (output : Columns) (r : Answer) (left : Columns) → Stretching q output r left → number_said r ≡ 0 → q.recorded ≡ true
+    (q : StretchRequest) (output : Columns) (r : Answer) (left : Columns) → Stretching q output r left → said r ≡ 0 → q.recorded ≡ true
     → let w = work q.rtl q.line in
     (copies : ℕ → ℕ) → Numbered w copies → (i : ℕ) → i < length q.line.actions → tile_first (drop i w) ≡ false
     → comes q.rtl (length_said r) left (i + total (added_at w copies) i) ≡ comes q.rtl (length q.line.actions) q.line i
@@ -121,7 +121,7 @@ pub record RunStands (rtl : Bool) (n c o : ℕ) (start : ℤ) (tile out : ℕ �
 -- The tiles of a run and their copies stand one behind the other. A run that begins at place i of the line begins in the output as many places later as the runs before it have added.
 abbrev pub TilesStand : Type 0
 TilesStand =
-    (q : StretchRequest) (output : Columns) (r : Answer) (left : Columns) → Stretching q output r left → number_said r ≡ 0 → q.recorded ≡ true
+    (q : StretchRequest) (output : Columns) (r : Answer) (left : Columns) → Stretching q output r left → said r ≡ 0 → q.recorded ≡ true
     → let w = work q.rtl q.line in
     (copies : ℕ → ℕ) → Numbered w copies → (i : ℕ) → begins w i ≡ true
     → let l = drop i w in

@@ -1,55 +1,32 @@
--- The whole work: the pieces of a run are those of its tiles, whatever else its records hold (`pieces-of-run`); `Writing` what the loop carries, and what a turn over the records before a run and over the run makes of it (`writing-starts`, `writing-next`, `writing-ends`),
+-- The whole work: the pieces of a run are those of its part of the line (`pieces-of-run`); `Writing` what the loop carries, and what a turn over the records before a run and over the run makes of it (`writing-starts`, `writing-next`, `writing-ends`),
 -- with what its calls ask for (`next_fits`, `kept-fits`, `room-kept`, `past_fits`, `past-above`, `run-has-room`).
 -- Assumes nothing.
 use mathlib.Core.Path.{◌≡◌, refl, sym, ap, ap₂, ◌∙◌}
-use mathlib.Core.Bool.{Bool, false, cond}
-use mathlib.Core.List.{List, [], ◌∷◌, ◌++◌, map, head-eq_of_cons-eq, tail-eq_of_cons-eq}
+use mathlib.Core.Bool.{Bool, false}
+use mathlib.Core.List.{List, [], ◌++◌}
 use Prim.Native.Nat.{ℕ, zero, suc, ◌+◌, ◌-◌, ◌≤◌, ◌<◌}
 use native.Mathlib.Omega.{arith}
-use lib.Dec.{eqb}
 use lib.ListN.{length, take, drop, length-append, length-drop, drop_of_length-le}
 use lib.Seq.{slice, take_at}
-use lib.IntN.{ℤ}
 use Rattle.laws.specs.Lists.{behind}
 use Rattle.laws.proofs.ListLaws.{front-behind}
-use Rattle.laws.proofs.PartLaws.{take-map, drop-map, slice_mid}
-use Rattle.letters.specs.Actions.{repeating}
+use Rattle.laws.proofs.PartLaws.{slice_mid}
 use Rattle.runs.specs.declared.Measured.{Measured}
-use Rattle.runs.specs.Records.{Record, Columns, record_at, line_of, kept}
+use Rattle.runs.specs.Records.{Record, Columns}
 use Rattle.runs.specs.Runs.{is_tile, is_plain, plain, run, past_run}
-use Rattle.runs.specs.Stretched.{in_order, work, pieces, run_pieces, placed, placed_run, worked}
+use Rattle.runs.specs.Stretched.{work, run_pieces, placed, placed_run, worked}
 use Rattle.runs.specs.Measured.{measured_of}
-use Rattle.runs.proofs.RecordLaws.{map_in_order, map-listed, length-work}
+use Rattle.runs.proofs.RecordLaws.{length-work}
 use Rattle.runs.proofs.MeasuredLaws.{past_is, run_fits, plain_fits}
 use Rattle.runs.proofs.CountLaws.{next-is}
 use Rattle.runs.proofs.StretchedLaws.{AtRun, at-run, run-some, worked-skips, worked-at-run, length-placed}
 use Rattle.copying.specs.Pasted.{Roomy}
 use Rattle.laying.specs.Laid.{laid}
-use Rattle.placing.specs.Placed.{bare, pieces_from}
+use Rattle.placing.specs.Placed.{pieces_from}
 use Rattle.copying.proofs.ColumnsLaws.{SameLengths, same-lengths, lengths-then, roomy-same}
 use Rattle.laying.proofs.LaidLaws.{laid_none, laid_then, lengths-laid}
 
--- ---- pieces are of tiles
--- the number of copies, by the tile
-pieces-same : (copies : ℕ) (overlap : ℤ) (l k : List Record) → map kept l ≡ map kept k → run_pieces copies overlap l ≡ run_pieces copies overlap k
-unfolding run_pieces
-pieces-same copies overlap [] [] e = refl
-pieces-same copies overlap [] (r ∷ k) e = let n : ◌≡◌ {A = ℕ} 0 (suc (length (map kept k))) = ap length e in absurd (omega (arith, n))
-pieces-same copies overlap (r ∷ l) [] e = let n : ◌≡◌ {A = ℕ} (suc (length (map kept l))) 0 = ap length e in absurd (omega (arith, n))
-pieces-same copies overlap (r ∷ l) (q ∷ k) e =
-    ap₂ (λ t ps. pieces (cond (eqb t.action repeating) copies 0) overlap t ++ ps) (head-eq_of_cons-eq e) (pieces-same copies overlap l k (tail-eq_of_cons-eq e))
-
--- the tiles of a line, whatever its advances and offsets are
-tiles-same : (rtl : Bool) (c : Columns) → map kept (work rtl (bare c.glyphs c.widths c.categories c.ignorables c.actions)) ≡ map kept (work rtl c)
-unfolding work line_of
-tiles-same rtl c =
-    let b = bare c.glyphs c.widths c.categories c.ignorables c.actions in
-    let n = length c.actions in
-    map_in_order kept rtl (line_of b) ∙ ap (in_order rtl) (map-listed kept (record_at b) n ∙ sym (map-listed kept (record_at c) n)) ∙ sym (map_in_order kept rtl (line_of c))
-
-slice_map : {A B : Type 0} (f : A → B) (i j : ℕ) (l : List A) → slice i j (map f l) ≡ map f (slice i j l)
-slice_map f i j l = ap (drop i) (take-map f j l) ∙ drop-map f i (take j l)
-
+-- ---- the pieces of a run
 -- the run of a list, as a part of it
 run-part : (l : List Record) (k past : ℕ) → past ≡ k + length (run (drop k l)) → slice k past l ≡ run (drop k l)
 run-part l k past e =
@@ -60,16 +37,12 @@ run-part l k past e =
 module _ (rtl : Bool) (c : Columns) where
   pub pieces-of-run :
       (k : ℕ) (r : Measured) → r ≡ measured_of k (drop k (work rtl c))
-      → placed rtl r.start (pieces_from rtl k r (bare c.glyphs c.widths c.categories c.ignorables c.actions)) ≡ placed_run rtl (drop k (work rtl c))
+      → placed rtl r.start (pieces_from rtl k r c) ≡ placed_run rtl (drop k (work rtl c))
   unfolding pieces_from placed_run measured_of
   pieces-of-run k r e =
       let L = work rtl c in
-      let b = bare c.glyphs c.widths c.categories c.ignorables c.actions in
       let past : r.past ≡ k + length (run (drop k L)) = ap (λ (q : Measured). q.past) e in
-      let tiles : map kept (slice k r.past (work rtl b)) ≡ map kept (run (drop k L)) =
-      sym (slice_map kept k r.past (work rtl b)) ∙ ap (slice k r.past) (tiles-same rtl c) ∙ slice_map kept k r.past L ∙ ap (map kept) (run-part L k r.past past)
-      in
-      ap (placed rtl r.start) (pieces-same r.copies r.overlap (slice k r.past (work rtl b)) (run (drop k L)) tiles)
+      ap (λ (l : List Record). placed rtl r.start (run_pieces r.copies r.overlap l)) (run-part L k r.past past)
       ∙ ap (λ (q : Measured). placed rtl q.start (run_pieces q.copies q.overlap (run (drop k L)))) e
 
 -- ---- the loop
@@ -147,14 +120,14 @@ module _ (rtl : Bool) (m : ℕ) (c start : Columns) where
           omega (arith, w.ahead, all, before-long, length-append (take (next - k) (drop k (work rtl c))) (placed_run rtl (drop next (work rtl c)) ++ worked rtl false (drop r.past (work rtl c))), length-append (placed_run rtl (drop next (work rtl c))) (worked rtl false (drop r.past (work rtl c))))
 
       -- the run has room
-      pub run-has-room : at + (next - k) + length (pieces_from rtl next r (bare c.glyphs c.widths c.categories c.ignorables c.actions)) ≤ m
+      pub run-has-room : at + (next - k) + length (pieces_from rtl next r c) ≤ m
       run-has-room =
-          omega (arith, long, sym (length-placed rtl r.start (pieces_from rtl next r (bare c.glyphs c.widths c.categories c.ignorables c.actions))) ∙ ap length (pieces-of-run rtl c next r er))
+          omega (arith, long, sym (length-placed rtl r.start (pieces_from rtl next r c)) ∙ ap length (pieces-of-run rtl c next r er))
 
       pub writing-next :
           Roomy m start → (d e : Columns) → d ≡ laid rtl m at (take (next - k) (drop k (work rtl c))) b
-          → e ≡ laid rtl m (at + (next - k)) (placed rtl r.start (pieces_from rtl next r (bare c.glyphs c.widths c.categories c.ignorables c.actions))) d
-          → (there : ℕ) → there ≡ at + (next - k) + length (pieces_from rtl next r (bare c.glyphs c.widths c.categories c.ignorables c.actions))
+          → e ≡ laid rtl m (at + (next - k)) (placed rtl r.start (pieces_from rtl next r c)) d
+          → (there : ℕ) → there ≡ at + (next - k) + length (pieces_from rtl next r c)
           → Writing rtl m c start goal r.past there e
       writing-next room d e ed ee there et =
           let here = roomy-same w.same room in
@@ -162,7 +135,7 @@ module _ (rtl : Bool) (m : ℕ) (c start : Columns) where
           let tiles = placed_run rtl (drop next (work rtl c)) in
           let rest = worked rtl false (drop r.past (work rtl c)) in
           let placed-is = pieces-of-run rtl c next r er in
-          let tiles-long : length (pieces_from rtl next r (bare c.glyphs c.widths c.categories c.ignorables c.actions)) ≡ length tiles = sym (length-placed rtl r.start _) ∙ ap length placed-is in
+          let tiles-long : length (pieces_from rtl next r c) ≡ length tiles = sym (length-placed rtl r.start _) ∙ ap length placed-is in
           let there-is : there ≡ at + (next - k) + length tiles = et ∙ ap (λ (j : ℕ). at + (next - k) + j) tiles-long in
           let e-is : e ≡ laid rtl m (at + (next - k)) tiles d = ee ∙ ap (λ (l : List Record). laid rtl m (at + (next - k)) l d) placed-is in
           let same-d : SameLengths b d = kept_same room d ed in

@@ -18,5 +18,5 @@ pub record Writable (rtl : Bool) (line : Columns) (m : ℕ) (output : Columns) :
   pub room : Roomy m output
 
 -- the whole work, laid in the output
-abbrev pub LineWritten : Bool → Both Columns Columns → ℕ → Both Columns Columns → Type 0
-LineWritten rtl line m output = LaidIn rtl m 0 (worked rtl false (work rtl line.entry)) output
+abbrev pub LineWritten : Bool → Columns → ℕ → Both Columns Columns → Type 0
+LineWritten rtl line m output = LaidIn rtl m 0 (worked rtl false (work rtl line)) output

@@ -3,7 +3,7 @@
 use mathlib.Core.Path.{◌∙◌}
 use Prim.Native.Nat.{◌+◌, ◌≤◌}
 use lib.ListN.{length}
-use Rattle.runs.specs.Records.{columns}
+use Rattle.runs.specs.Records.{columns_read}
 use Rattle.runs.proofs.RecordLaws.{part-fits}
 use Rattle.copying.proofs.ColumnsLaws.{roomy-less}
 use Rattle.laying.proofs.LaidLaws.{copied_part}
@@ -11,10 +11,10 @@ use Rattle.laying.proofs.keep.Goals as goal
 use Rattle.laying.proofs.keep.Goals.{After-part-o}
 
 -- both parts are within their columns
-within : (c : After-part-o) → (c.part-i.result + c.args.s ≤ length c.args.actions.now) × (c.part-o.result + c.args.s ≤ c.args.m)
+within : (c : After-part-o) → (c.part-i.result + c.args.s ≤ length c.args.line.actions.now) × (c.part-o.result + c.args.s ≤ c.args.m)
 within c =
     let a = c.args in
-    (rw c.part-i.ensures (part-fits a.rtl (length a.actions.now) a.k a.s c.requires.inside), rw c.part-o.ensures (part-fits a.rtl a.m a.at a.s c.requires.there))
+    (rw c.part-i.ensures (part-fits a.rtl (length a.line.actions.now) a.k a.s c.requires.inside), rw c.part-o.ensures (part-fits a.rtl a.m a.at a.s c.requires.there))
 
 pub copy_records-requires : goal.copy_records-requires
 copy_records-requires c =
@@ -30,12 +30,12 @@ pub returns-then-s-lt-FEW : goal.returns-then-s-lt-FEW
 returns-then-s-lt-FEW c =
     let a = c.args in
     c.copy_records.ensures
-    ∙ copied_part a.rtl a.m a.at a.k a.s c.part-i.result c.part-o.result (columns a.glyphs.now a.widths.now a.categories.now a.ignorables.now a.actions.now a.advances.now a.offsets.now) _
+    ∙ copied_part a.rtl a.m a.at a.k a.s c.part-i.result c.part-o.result (columns_read a.line) _
     c.requires.even c.requires.inside c.part-i.ensures c.part-o.ensures
 
 pub returns-else-s-lt-FEW : goal.returns-else-s-lt-FEW
 returns-else-s-lt-FEW c =
     let a = c.args in
     c.copy_columns.ensures
-    ∙ copied_part a.rtl a.m a.at a.k a.s c.part-i.result c.part-o.result (columns a.glyphs.now a.widths.now a.categories.now a.ignorables.now a.actions.now a.advances.now a.offsets.now) _
+    ∙ copied_part a.rtl a.m a.at a.k a.s c.part-i.result c.part-o.result (columns_read a.line) _
     c.requires.even c.requires.inside c.part-i.ensures c.part-o.ensures

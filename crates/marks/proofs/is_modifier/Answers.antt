@@ -9,16 +9,16 @@ use Rattle.laws.proofs.LoopLaws.{drop-next, seen_next, seen-ends}
 use Rattle.marks.specs.Modifiers.{modifiers, modifier}
 use Rattle.marks.proofs.is_modifier.Goals as goal
 
-pub loop-i-init : goal.loop-i-init
+pub loop-mark-init : goal.loop-mark-init
 unfolding modifier
-loop-i-init c = refl
+loop-mark-init c = refl
 
-pub loop-i-preserved : goal.loop-i-preserved
-loop-i-preserved c =
+pub loop-mark-preserved : goal.loop-mark-preserved
+loop-mark-preserved c =
     let x = c.args.code.0 in
-    let i = c.loop-i.i in
-    seen_next c.loop-i.found c.loop-i.invariant (eqb (get_or modifiers i 0) x) (member x (drop (i + 1) modifiers)) (ap (member x) (drop-next modifiers i 0 c.loop-i-test.true))
+    let i = c.loop-mark.mark-index in
+    seen_next c.loop-mark.found c.loop-mark.invariant (eqb (get_or modifiers i 0) x) (member x (drop (i + 1) modifiers)) (ap (member x) (drop-next modifiers i 0 c.loop-mark-test.true))
 
 pub returns : goal.returns
 returns c =
-    seen-ends c.loop-i.found c.loop-i.invariant (ap (member c.args.code.0) (drop_of_length-le modifiers {i = c.loop-i.i} c.loop-i-test.false))
+    seen-ends c.loop-mark.found c.loop-mark.invariant (ap (member c.args.code.0) (drop_of_length-le modifiers {i = c.loop-mark.mark-index} c.loop-mark-test.false))

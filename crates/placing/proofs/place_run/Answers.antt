@@ -7,9 +7,9 @@ use lib.ListN.{length}
 use mir.Syntax.{w32}
 use mir.Val.{SFits, to_z}
 use Rattle.fitting.proofs.SignedLaws.{back}
-use Rattle.runs.specs.Records.{record_at, kept}
+use Rattle.runs.specs.Records.{columns_read, record_at, kept}
 use Rattle.runs.proofs.RecordLaws.{spot-below}
-use Rattle.placing.specs.Placed.{bare, pieces_from}
+use Rattle.placing.specs.Placed.{pieces_from}
 use Rattle.copying.proofs.ColumnsLaws.{roomy-same}
 use Rattle.placing.proofs.RunLaws.{running_starts, running_fits, running_next, running_ends, tile-is}
 use borrow.Author.Rules.{rules}
@@ -17,9 +17,9 @@ use Rattle.placing.proofs.place_run.Goals as goal
 use Rattle.placing.proofs.place_run.Goals.{After-part-p, After-times_of-times}
 
 -- the place is one of the line
-spot : (c : After-part-p) → c.part-p.result < length c.args.actions.now
+spot : (c : After-part-p) → c.part-p.result < length c.args.line.actions.now
 spot c =
-    rw c.part-p.ensures (spot-below c.args.rtl (length c.args.actions.now) c.loop-i.i (omega (arith, c.loop-i-test.true, c.requires.inside)))
+    rw c.part-p.ensures (spot-below c.args.rtl (length c.args.line.actions.now) c.loop-i.i (omega (arith, c.loop-i-test.true, c.requires.inside)))
 
 -- the tile there has room, with its copies
 tile-fits : (c : After-times_of-times) → c.loop-i.next + (1 + c.times_of-times.result) ≤ c.args.m
@@ -28,39 +28,35 @@ tile-fits c =
     let overlap-fits : SFits w32 c.args.run.overlap = search rules in
     let a = c.args in
     let p = c.part-p in
-    running_fits a.rtl a.m (bare a.glyphs.now a.widths.now a.categories.now a.ignorables.now a.actions.now) _ a.run.past a.run.copies _ _ _ c.loop-i.i c.loop-i.next (to_z w32 c.loop-i.x-bits) _ c.loop-i.invariant c.requires.inside (rw (back overlap-fits) c.requires.there) c.loop-i-test.true
-    p.result p.ensures (kept (record_at (bare a.glyphs.now a.widths.now a.categories.now a.ignorables.now a.actions.now) p.result)) refl c.times_of-times.result c.times_of-times.ensures
+    running_fits a.rtl a.m (columns_read a.line) _ a.run.past a.run.copies _ _ _ c.loop-i.i c.loop-i.next (to_z w32 c.loop-i.x-bits) _ c.loop-i.invariant c.requires.inside (rw (back overlap-fits) c.requires.there) c.loop-i-test.true
+    p.result p.ensures (kept (record_at (columns_read a.line) p.result)) refl c.times_of-times.result c.times_of-times.ensures
 
 pub loop-i-init : goal.loop-i-init
 loop-i-init c =
     running_starts _ _ _ _ c.args.k c.args.at _ _ _ _ c.requires.begun
 
-pub part-p-requires : goal.part-p-requires
-part-p-requires c =
-    omega (arith, c.loop-i-test.true, c.requires.inside)
-
-pub bounds-actions-p : goal.bounds-actions-p
-bounds-actions-p c = omega (arith, spot (goal.at.bounds-actions-p c).After-part-p)
+pub bounds-line-p : goal.bounds-line-p
+bounds-line-p c = omega (arith, spot (goal.at.bounds-line-p c).After-part-p)
 
 pub at-width-requires : goal.at-width-requires
 at-width-requires c =
     omega (arith, spot (goal.at.at-width-requires c).After-part-p, c.requires.even.tile_widths)
 
-pub offset_bounds-glyphs-p : goal.offset_bounds-glyphs-p
-offset_bounds-glyphs-p c =
-    omega (arith, spot (goal.at.offset_bounds-glyphs-p c).After-part-p, c.requires.even.tile_glyphs)
+pub offset_bounds-line-p : goal.offset_bounds-line-p
+offset_bounds-line-p c =
+    omega (arith, spot (goal.at.offset_bounds-line-p c).After-part-p, c.requires.even.tile_glyphs)
 
-pub bounds-glyphs-p : goal.bounds-glyphs-p
-bounds-glyphs-p c =
-    omega (arith, spot (goal.at.bounds-glyphs-p c).After-part-p, c.requires.even.tile_glyphs)
+pub bounds-line-p-in-loop-i : goal.bounds-line-p-in-loop-i
+bounds-line-p-in-loop-i c =
+    omega (arith, spot (goal.at.bounds-line-p-in-loop-i c).After-part-p, c.requires.even.tile_glyphs)
 
-pub bounds-categories-p : goal.bounds-categories-p
-bounds-categories-p c =
-    omega (arith, spot (goal.at.bounds-categories-p c).After-part-p, c.requires.even.tile_categories)
+pub bounds-line-p-in-loop-i-2 : goal.bounds-line-p-in-loop-i-2
+bounds-line-p-in-loop-i-2 c =
+    omega (arith, spot (goal.at.bounds-line-p-in-loop-i-2 c).After-part-p, c.requires.even.tile_categories)
 
-pub bounds-ignorables-p : goal.bounds-ignorables-p
-bounds-ignorables-p c =
-    omega (arith, spot (goal.at.bounds-ignorables-p c).After-part-p, c.requires.even.tile_ignorables)
+pub bounds-line-p-in-loop-i-3 : goal.bounds-line-p-in-loop-i-3
+bounds-line-p-in-loop-i-3 c =
+    omega (arith, spot (goal.at.bounds-line-p-in-loop-i-3 c).After-part-p, c.requires.even.tile_ignorables)
 
 pub place_tile-x-requires : goal.place_tile-x-requires
 place_tile-x-requires c =
@@ -74,14 +70,6 @@ pub overflow_add-next-in-loop-i : goal.overflow_add-next-in-loop-i
 overflow_add-next-in-loop-i c =
     record { fits = omega (arith, tile-fits (goal.at.overflow_add-next-in-loop-i c).After-times_of-times, c.ranges.m) }
 
-pub overflow_add-i : goal.overflow_add-i
-overflow_add-i c =
-    omega (arith, c.loop-i-test.true)
-
-pub loop-i-smaller : goal.loop-i-smaller
-loop-i-smaller c =
-    omega (arith, c.loop-i-test.true)
-
 pub loop-i-preserved : goal.loop-i-preserved
 unfolding pieces_from
 loop-i-preserved c =
@@ -90,30 +78,9 @@ loop-i-preserved c =
     let p = c.part-p in
     let width_fits : SFits w32 c.at-width.result = record { sfits = c.at-width.type_inv } in
     let x_fits : SFits w32 c.place_tile-x.result = record { sfits = c.place_tile-x.type_inv } in
-    rw (back x_fits) (running_next a.rtl a.m (bare a.glyphs.now a.widths.now a.categories.now a.ignorables.now a.actions.now) _ a.run.past a.run.copies _ _ _ c.loop-i.i c.loop-i.next (to_z w32 c.loop-i.x-bits) _ c.loop-i.invariant c.requires.inside (rw (back overlap-fits) c.requires.there) c.loop-i-test.true
+    rw (back x_fits) (running_next a.rtl a.m (columns_read a.line) _ a.run.past a.run.copies _ _ _ c.loop-i.i c.loop-i.next (to_z w32 c.loop-i.x-bits) _ c.loop-i.invariant c.requires.inside (rw (back overlap-fits) c.requires.there) c.loop-i-test.true
     p.result p.ensures _ (tile-is (rw (back width_fits) c.at-width.ensures)) c.times_of-times.result c.times_of-times.ensures c.requires.room
     c.place_tile-x.result c.place_tile-x.ensures.next _ c.place_tile-x.ensures.placed)
-
-pub shape_of-to_glyphs : goal.shape_of-to_glyphs
-shape_of-to_glyphs c = c.loop-i.invariant.same.same_glyphs
-
-pub shape_of-to_widths : goal.shape_of-to_widths
-shape_of-to_widths c = c.loop-i.invariant.same.same_widths
-
-pub shape_of-to_categories : goal.shape_of-to_categories
-shape_of-to_categories c = c.loop-i.invariant.same.same_categories
-
-pub shape_of-to_ignorables : goal.shape_of-to_ignorables
-shape_of-to_ignorables c = c.loop-i.invariant.same.same_ignorables
-
-pub shape_of-to_actions : goal.shape_of-to_actions
-shape_of-to_actions c = c.loop-i.invariant.same.same_actions
-
-pub shape_of-to_advances : goal.shape_of-to_advances
-shape_of-to_advances c = c.loop-i.invariant.same.same_advances
-
-pub shape_of-to_offsets : goal.shape_of-to_offsets
-shape_of-to_offsets c = c.loop-i.invariant.same.same_offsets
 
 pub returns : goal.returns
 unfolding pieces_from
@@ -121,6 +88,6 @@ returns c =
     let overlap-fits : SFits w32 c.args.run.overlap = search rules in
     let start_fits : SFits w32 c.args.run.start = search rules in
     let a = c.args in
-    let e = running_ends a.rtl a.m (bare a.glyphs.now a.widths.now a.categories.now a.ignorables.now a.actions.now) _ a.run.past a.run.copies _ _ _ c.loop-i.i c.loop-i.next (to_z w32 c.loop-i.x-bits) _ c.loop-i.invariant c.requires.inside (rw (back overlap-fits) c.requires.there) c.loop-i-test.false in
+    let e = running_ends a.rtl a.m (columns_read a.line) _ a.run.past a.run.copies _ _ _ c.loop-i.i c.loop-i.next (to_z w32 c.loop-i.x-bits) _ c.loop-i.invariant c.requires.inside (rw (back overlap-fits) c.requires.there) c.loop-i-test.false in
     let f = rw (back start_fits, back overlap-fits) at e in
     record { comes_then = f.0; pieces_laid = f.1 }

@@ -20,21 +20,9 @@ here : (c : After-offset_of-offset) → (c.part-o.result < c.args.m) × Roomy c.
 here c =
     (rw c.part-o.ensures (spot-below c.args.rtl c.args.m c.loop-j.j (omega (arith, c.loop-j-test.true, c.requires.times_bound))), roomy-same c.loop-j.invariant.same c.requires.roomy)
 
-pub overflow_add-end : goal.overflow_add-end
-overflow_add-end c =
-    record { fits = omega (arith, c.ranges.m, c.requires.times_bound) }
-
-pub overflow_add-end-2 : goal.overflow_add-end-2
-overflow_add-end-2 c =
-    record { fits = omega (arith, c.ranges.m, c.requires.times_bound) }
-
 pub loop-j-init : goal.loop-j-init
 loop-j-init c =
     let a = c.args in laying_starts _ _ _ _ _ _ a.at a.times _ refl
-
-pub part-o-requires : goal.part-o-requires
-part-o-requires c =
-    omega (arith, c.loop-j-test.true, c.requires.times_bound)
 
 pub offset_bounds-to_glyphs-o : goal.offset_bounds-to_glyphs-o
 offset_bounds-to_glyphs-o c = let h = here (goal.at.offset_bounds-to_glyphs-o c).After-offset_of-offset in omega (arith, h.0, h.1.for_glyphs)
@@ -69,13 +57,6 @@ offset_bounds-to_offsets-o c = let h = here (goal.at.offset_bounds-to_offsets-o 
 pub bounds-to_offsets-o : goal.bounds-to_offsets-o
 bounds-to_offsets-o c = let h = here (goal.at.bounds-to_offsets-o c).After-offset_of-offset in omega (arith, h.0, h.1.for_offsets)
 
-pub overflow_add-j : goal.overflow_add-j
-overflow_add-j c =
-    record { fits = omega (arith, c.loop-j-test.true, c.ranges.m, c.requires.times_bound) }
-
-pub loop-j-smaller : goal.loop-j-smaller
-loop-j-smaller c = omega (arith, c.loop-j-test.true)
-
 pub loop-j-preserved : goal.loop-j-preserved
 loop-j-preserved c =
     let a = c.args in
@@ -83,27 +64,6 @@ loop-j-preserved c =
     let y-fits : SFits w32 c.moved-y.result = record { sfits = c.moved-y.type_inv } in
     let offset-fits : SFits w32 c.offset_of-offset.result = record { sfits = c.offset_of-offset.type_inv } in
     rw (back width_fits, back y-fits, back offset-fits) (laying_next _ _ _ _ _ _ _ _ c.loop-j.j (to_z w32 c.loop-j.x-bits) (to_z w32 c.loop-j.lap-bits) _ c.loop-j.invariant c.requires.roomy (omega (arith, c.requires.times_bound)) c.loop-j-test.true c.part-o.result c.part-o.ensures c.moved-y.result c.offset_of-offset.result (rw (back width_fits) at c.moved-y.ensures) (rw (back y-fits) at c.offset_of-offset.ensures))
-
-pub shape_of-to_glyphs : goal.shape_of-to_glyphs
-shape_of-to_glyphs c = c.loop-j.invariant.same.same_glyphs
-
-pub shape_of-to_widths : goal.shape_of-to_widths
-shape_of-to_widths c = c.loop-j.invariant.same.same_widths
-
-pub shape_of-to_categories : goal.shape_of-to_categories
-shape_of-to_categories c = c.loop-j.invariant.same.same_categories
-
-pub shape_of-to_ignorables : goal.shape_of-to_ignorables
-shape_of-to_ignorables c = c.loop-j.invariant.same.same_ignorables
-
-pub shape_of-to_actions : goal.shape_of-to_actions
-shape_of-to_actions c = c.loop-j.invariant.same.same_actions
-
-pub shape_of-to_advances : goal.shape_of-to_advances
-shape_of-to_advances c = c.loop-j.invariant.same.same_advances
-
-pub shape_of-to_offsets : goal.shape_of-to_offsets
-shape_of-to_offsets c = c.loop-j.invariant.same.same_offsets
 
 pub returns : goal.returns
 returns c =

@@ -15,10 +15,10 @@ use Rattle.runs.proofs.measured_at.Goals as goal
 use Rattle.runs.proofs.measured_at.Goals.{After-sums_at-run}
 
 -- the run ends within the line, and has no more tiles than it
-sums_within : (c : After-sums_at-run) → (c.sums_at-run.result.past ≤ length c.args.actions.now) × (c.sums_at-run.result.tiles ≤ length c.args.actions.now)
+sums_within : (c : After-sums_at-run) → (c.sums_at-run.result.past ≤ length c.args.line.actions.now) × (c.sums_at-run.result.tiles ≤ length c.args.line.actions.now)
 sums_within c =
     let a = c.args in
-    let l = columns [] a.widths.now a.categories.now a.ignorables.now a.actions.now a.advances.now [] in
+    let l = columns [] a.line.widths.now a.line.categories.now a.line.ignorables.now a.line.actions.now a.line.advances.now [] in
     sums_fit a.rtl l a.from c.requires.from_in_bounds c.sums_at-run.result (c.sums_at-run.ensures l refl refl)
 
 pub word_at-word-requires : goal.word_at-word-requires

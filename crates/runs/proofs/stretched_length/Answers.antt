@@ -18,10 +18,10 @@ use Rattle.runs.proofs.stretched_length.Goals.{After-measured_at-run}
 lent_any : (ws : List ℤ) (cs us ts : List ℕ) (vs : List ℤ) → Lent (columns [] ws cs us ts vs []) ws cs us ts vs
 lent_any ws cs us ts vs = record { has_widths = refl; has_categories = refl; has_ignorables = refl; has_actions = refl; has_advances = refl }
 
-turned-here : (c : After-measured_at-run) → Turned (length c.args.actions.now) c.loop-k.k c.measured_at-run.result
+turned-here : (c : After-measured_at-run) → Turned (length c.args.line.actions.now) c.loop-k.k c.measured_at-run.result
 turned-here c =
     let t = c.loop-k in
-    turned c.args.rtl (columns [] c.args.widths.now c.args.categories.now c.args.ignorables.now c.args.actions.now c.args.advances.now []) t.k t.total c.measured_at-run.result c.loop-k-test.true (t.invariant.2 (columns [] c.args.widths.now c.args.categories.now c.args.ignorables.now c.args.actions.now c.args.advances.now []) (lent_any _ _ _ _ _)) (c.measured_at-run.ensures (columns [] c.args.widths.now c.args.categories.now c.args.ignorables.now c.args.actions.now c.args.advances.now []) (lent_any _ _ _ _ _))
+    turned c.args.rtl (columns [] c.args.line.widths.now c.args.line.categories.now c.args.line.ignorables.now c.args.line.actions.now c.args.line.advances.now []) t.k t.total c.measured_at-run.result c.loop-k-test.true (t.invariant.2 (columns [] c.args.line.widths.now c.args.line.categories.now c.args.line.ignorables.now c.args.line.actions.now c.args.line.advances.now []) (lent_any _ _ _ _ _)) (c.measured_at-run.ensures (columns [] c.args.line.widths.now c.args.line.categories.now c.args.line.ignorables.now c.args.line.actions.now c.args.line.advances.now []) (lent_any _ _ _ _ _))
 
 pub next_run-k-requires : goal.next_run-k-requires
 next_run-k-requires c = record { from_in_bounds = omega arith; actions_value = c.requires.actions_value }
@@ -30,7 +30,7 @@ pub loop-k-init : goal.loop-k-init
 loop-k-init c =
     let a = c.args in
     let first = c.next_run-k.ensures in
-    (rw (first (columns [] c.args.widths.now c.args.categories.now c.args.ignorables.now c.args.actions.now c.args.advances.now []) refl) (plain_fits a.rtl (columns [] c.args.widths.now c.args.categories.now c.args.ignorables.now c.args.actions.now c.args.advances.now []) 0 (omega arith)), omega arith, λ l lent. rw (← lent.has_actions, ← length-work a.rtl l) (counting_starts (work a.rtl l) c.next_run-k.result (first l lent.has_actions ∙ omega arith)))
+    (rw (first (columns [] c.args.line.widths.now c.args.line.categories.now c.args.line.ignorables.now c.args.line.actions.now c.args.line.advances.now []) refl) (plain_fits a.rtl (columns [] c.args.line.widths.now c.args.line.categories.now c.args.line.ignorables.now c.args.line.actions.now c.args.line.advances.now []) 0 (omega arith)), omega arith, λ l lent. rw (← lent.has_actions, ← length-work a.rtl l) (counting_starts (work a.rtl l) c.next_run-k.result (first l lent.has_actions ∙ omega arith)))
 
 pub measured_at-run-requires : goal.measured_at-run-requires
 measured_at-run-requires c =
@@ -53,7 +53,7 @@ next_run-k-requires-in-loop-k c =
 pub loop-k-smaller : goal.loop-k-smaller
 loop-k-smaller c =
     let t = turned-here (goal.at.loop-k-smaller c).After-measured_at-run in
-    let next = c.next_run-k-in-loop-k.ensures (columns [] c.args.widths.now c.args.categories.now c.args.ignorables.now c.args.actions.now c.args.advances.now []) refl in
+    let next = c.next_run-k-in-loop-k.ensures (columns [] c.args.line.widths.now c.args.line.categories.now c.args.line.ignorables.now c.args.line.actions.now c.args.line.advances.now []) refl in
     omega (arith, t.above, t.fits, next)
 
 pub loop-k-preserved : goal.loop-k-preserved
@@ -63,8 +63,8 @@ loop-k-preserved c =
     let s = c.loop-k in
     let run = c.measured_at-run.result in
     let next = c.next_run-k-in-loop-k.ensures in (
-      rw (next (columns [] c.args.widths.now c.args.categories.now c.args.ignorables.now c.args.actions.now c.args.advances.now []) refl) (plain_fits a.rtl (columns [] c.args.widths.now c.args.categories.now c.args.ignorables.now c.args.actions.now c.args.advances.now []) run.past t.fits),
-      omega (arith, t.adds, s.invariant.1, next (columns [] c.args.widths.now c.args.categories.now c.args.ignorables.now c.args.actions.now c.args.advances.now []) refl),
+      rw (next (columns [] c.args.line.widths.now c.args.line.categories.now c.args.line.ignorables.now c.args.line.actions.now c.args.line.advances.now []) refl) (plain_fits a.rtl (columns [] c.args.line.widths.now c.args.line.categories.now c.args.line.ignorables.now c.args.line.actions.now c.args.line.advances.now []) run.past t.fits),
+      omega (arith, t.adds, s.invariant.1, next (columns [] c.args.line.widths.now c.args.line.categories.now c.args.line.ignorables.now c.args.line.actions.now c.args.line.advances.now []) refl),
       λ l lent. counting_run (work a.rtl l) s.k s.total run (s.invariant.2 l lent) (c.measured_at-run.ensures l lent) c.next_run-k-in-loop-k.result (next l lent.has_actions),
     )
 

@@ -1,10 +1,6 @@
-use Prim.Native.Nat.{◌≤◌, ◌-◌}
-use lib.ListN.{length}
+use Prim.Native.Nat.{◌≤◌}
 use Rattle.runs.proofs.TurnLaws.{SumsFrom}
 use Rattle.runs.proofs.sums_at.Given as goal
 
 abbrev pub invariant-loop-k : goal.invariant-loop-k
-invariant-loop-k l = (l.k ≤ length l.actions) × (l.tiles ≤ l.k) × SumsFrom l.rtl l.from l.widths l.actions l.k l.fixed l.repeating l.tiles
-
-abbrev pub decreases-loop-k : goal.decreases-loop-k
-decreases-loop-k l = length l.actions - l.k
+invariant-loop-k l = (l.tiles ≤ l.k) × SumsFrom l.rtl l.from l.line.widths.now l.line.actions.now l.k l.fixed l.repeating l.tiles

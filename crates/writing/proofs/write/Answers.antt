@@ -5,7 +5,7 @@ use mathlib.Core.List.{List}
 use lib.IntN.{ℤ}
 use Prim.Native.Nat.{ℕ}
 use native.Mathlib.Omega.{arith}
-use Rattle.runs.specs.Records.{columns}
+use Rattle.runs.specs.Records.{columns, columns_read}
 use Rattle.runs.specs.Measured.{Lent}
 use Rattle.copying.proofs.ColumnsLaws.{roomy-same}
 use Rattle.writing.proofs.WriteLaws.{writing-starts, next_fits, past_fits, past-above, kept-fits, room-kept, run-has-room, writing-next, writing-ends}
@@ -26,47 +26,47 @@ next_run-next-requires c =
 pub overflow_sub-s : goal.overflow_sub-s
 overflow_sub-s c =
     let a = c.args in
-    omega (arith, c.next_run-next.ensures (columns a.glyphs.now a.widths.now a.categories.now a.ignorables.now a.actions.now a.advances.now a.offsets.now) refl)
+    omega (arith, c.next_run-next.ensures (columns_read a.line) refl)
 
 pub keep-requires : goal.keep-requires
 keep-requires c =
     let a = c.args in
-    let fit = kept-fits a.rtl a.m (columns a.glyphs.now a.widths.now a.categories.now a.ignorables.now a.actions.now a.advances.now a.offsets.now) _ _ c.loop-k.k c.loop-k.at _ c.loop-k.invariant c.next_run-next.result (c.next_run-next.ensures (columns a.glyphs.now a.widths.now a.categories.now a.ignorables.now a.actions.now a.advances.now a.offsets.now) refl) in
+    let fit = kept-fits a.rtl a.m (columns_read a.line) _ _ c.loop-k.k c.loop-k.at _ c.loop-k.invariant c.next_run-next.result (c.next_run-next.ensures (columns_read a.line) refl) in
     record { inside = fit.0; there = fit.1; even = c.requires.even; room = roomy-same c.loop-k.invariant.same c.requires.room }
 
 pub measured_at-run-requires : goal.measured_at-run-requires
 measured_at-run-requires c =
     let a = c.args in
     let e = c.requires.even in
-    record { from_in_bounds = next_fits a.rtl a.m (columns a.glyphs.now a.widths.now a.categories.now a.ignorables.now a.actions.now a.advances.now a.offsets.now) _ _ c.loop-k.k c.loop-k.at _ c.loop-k.invariant c.next_run-next.result (c.next_run-next.ensures (columns a.glyphs.now a.widths.now a.categories.now a.ignorables.now a.actions.now a.advances.now a.offsets.now) refl); actions_len_bound = c.requires.few; even = record { even_widths = e.even_widths; even_categories = e.even_categories; even_ignorables = e.even_ignorables; even_advances = e.even_advances } }
+    record { from_in_bounds = next_fits a.rtl a.m (columns_read a.line) _ _ c.loop-k.k c.loop-k.at _ c.loop-k.invariant c.next_run-next.result (c.next_run-next.ensures (columns_read a.line) refl); actions_len_bound = c.requires.few; even = record { even_widths = e.even_widths; even_categories = e.even_categories; even_ignorables = e.even_ignorables; even_advances = e.even_advances } }
 
 pub overflow_add-at : goal.overflow_add-at
 overflow_add-at c =
     let a = c.args in
-    record { fits = omega (arith, (kept-fits a.rtl a.m (columns a.glyphs.now a.widths.now a.categories.now a.ignorables.now a.actions.now a.advances.now a.offsets.now) _ _ c.loop-k.k c.loop-k.at _ c.loop-k.invariant c.next_run-next.result (c.next_run-next.ensures (columns a.glyphs.now a.widths.now a.categories.now a.ignorables.now a.actions.now a.advances.now a.offsets.now) refl)).1, c.ranges.m) }
+    record { fits = omega (arith, (kept-fits a.rtl a.m (columns_read a.line) _ _ c.loop-k.k c.loop-k.at _ c.loop-k.invariant c.next_run-next.result (c.next_run-next.ensures (columns_read a.line) refl)).1, c.ranges.m) }
 
 pub place_run-at-requires : goal.place_run-at-requires
 place_run-at-requires c =
     let a = c.args in
     let e = c.requires.even in
-    let fit = past_fits a.rtl a.m (columns a.glyphs.now a.widths.now a.categories.now a.ignorables.now a.actions.now a.advances.now a.offsets.now) _ _ c.loop-k.k c.loop-k.at _ c.loop-k.invariant c.next_run-next.result (c.next_run-next.ensures (columns a.glyphs.now a.widths.now a.categories.now a.ignorables.now a.actions.now a.advances.now a.offsets.now) refl) c.measured_at-run.result (c.measured_at-run.ensures (columns a.glyphs.now a.widths.now a.categories.now a.ignorables.now a.actions.now a.advances.now a.offsets.now) (lent-all _ _ _ _ _ _ _)) in
+    let fit = past_fits a.rtl a.m (columns_read a.line) _ _ c.loop-k.k c.loop-k.at _ c.loop-k.invariant c.next_run-next.result (c.next_run-next.ensures (columns_read a.line) refl) c.measured_at-run.result (c.measured_at-run.ensures (columns_read a.line) (lent-all _ _ _ _ _ _ _)) in
     record {
       begun = fit.0;
       inside = fit.1;
       even = record { tile_glyphs = e.even_glyphs; tile_widths = e.even_widths; tile_categories = e.even_categories; tile_ignorables = e.even_ignorables };
-      there = run-has-room a.rtl a.m (columns a.glyphs.now a.widths.now a.categories.now a.ignorables.now a.actions.now a.advances.now a.offsets.now) _ _ c.loop-k.k c.loop-k.at _ c.loop-k.invariant c.next_run-next.result (c.next_run-next.ensures (columns a.glyphs.now a.widths.now a.categories.now a.ignorables.now a.actions.now a.advances.now a.offsets.now) refl) c.measured_at-run.result (c.measured_at-run.ensures (columns a.glyphs.now a.widths.now a.categories.now a.ignorables.now a.actions.now a.advances.now a.offsets.now) (lent-all _ _ _ _ _ _ _));
-      room = room-kept a.rtl a.m (columns a.glyphs.now a.widths.now a.categories.now a.ignorables.now a.actions.now a.advances.now a.offsets.now) _ _ c.loop-k.k c.loop-k.at _ c.loop-k.invariant c.next_run-next.result (c.next_run-next.ensures (columns a.glyphs.now a.widths.now a.categories.now a.ignorables.now a.actions.now a.advances.now a.offsets.now) refl) c.requires.room _ c.keep.ensures;
+      there = run-has-room a.rtl a.m (columns_read a.line) _ _ c.loop-k.k c.loop-k.at _ c.loop-k.invariant c.next_run-next.result (c.next_run-next.ensures (columns_read a.line) refl) c.measured_at-run.result (c.measured_at-run.ensures (columns_read a.line) (lent-all _ _ _ _ _ _ _));
+      room = room-kept a.rtl a.m (columns_read a.line) _ _ c.loop-k.k c.loop-k.at _ c.loop-k.invariant c.next_run-next.result (c.next_run-next.ensures (columns_read a.line) refl) c.requires.room _ c.keep.ensures;
     }
 
 pub loop-k-smaller : goal.loop-k-smaller
 loop-k-smaller c =
     let a = c.args in
-    omega (arith, past-above a.rtl a.m (columns a.glyphs.now a.widths.now a.categories.now a.ignorables.now a.actions.now a.advances.now a.offsets.now) _ _ c.loop-k.k c.loop-k.at _ c.loop-k.invariant c.next_run-next.result (c.next_run-next.ensures (columns a.glyphs.now a.widths.now a.categories.now a.ignorables.now a.actions.now a.advances.now a.offsets.now) refl) c.measured_at-run.result (c.measured_at-run.ensures (columns a.glyphs.now a.widths.now a.categories.now a.ignorables.now a.actions.now a.advances.now a.offsets.now) (lent-all _ _ _ _ _ _ _)) c.loop-k-test.true, (past_fits a.rtl a.m (columns a.glyphs.now a.widths.now a.categories.now a.ignorables.now a.actions.now a.advances.now a.offsets.now) _ _ c.loop-k.k c.loop-k.at _ c.loop-k.invariant c.next_run-next.result (c.next_run-next.ensures (columns a.glyphs.now a.widths.now a.categories.now a.ignorables.now a.actions.now a.advances.now a.offsets.now) refl) c.measured_at-run.result (c.measured_at-run.ensures (columns a.glyphs.now a.widths.now a.categories.now a.ignorables.now a.actions.now a.advances.now a.offsets.now) (lent-all _ _ _ _ _ _ _))).1)
+    omega (arith, past-above a.rtl a.m (columns_read a.line) _ _ c.loop-k.k c.loop-k.at _ c.loop-k.invariant c.next_run-next.result (c.next_run-next.ensures (columns_read a.line) refl) c.measured_at-run.result (c.measured_at-run.ensures (columns_read a.line) (lent-all _ _ _ _ _ _ _)) c.loop-k-test.true, (past_fits a.rtl a.m (columns_read a.line) _ _ c.loop-k.k c.loop-k.at _ c.loop-k.invariant c.next_run-next.result (c.next_run-next.ensures (columns_read a.line) refl) c.measured_at-run.result (c.measured_at-run.ensures (columns_read a.line) (lent-all _ _ _ _ _ _ _))).1)
 
 pub loop-k-preserved : goal.loop-k-preserved
 loop-k-preserved c =
     let a = c.args in
-    writing-next a.rtl a.m (columns a.glyphs.now a.widths.now a.categories.now a.ignorables.now a.actions.now a.advances.now a.offsets.now) _ _ c.loop-k.k c.loop-k.at _ c.loop-k.invariant c.next_run-next.result (c.next_run-next.ensures (columns a.glyphs.now a.widths.now a.categories.now a.ignorables.now a.actions.now a.advances.now a.offsets.now) refl) c.measured_at-run.result (c.measured_at-run.ensures (columns a.glyphs.now a.widths.now a.categories.now a.ignorables.now a.actions.now a.advances.now a.offsets.now) (lent-all _ _ _ _ _ _ _)) c.requires.room _ _ c.keep.ensures c.place_run-at.ensures.pieces_laid c.place_run-at.result c.place_run-at.ensures.comes_then
+    writing-next a.rtl a.m (columns_read a.line) _ _ c.loop-k.k c.loop-k.at _ c.loop-k.invariant c.next_run-next.result (c.next_run-next.ensures (columns_read a.line) refl) c.measured_at-run.result (c.measured_at-run.ensures (columns_read a.line) (lent-all _ _ _ _ _ _ _)) c.requires.room _ _ c.keep.ensures c.place_run-at.ensures.pieces_laid c.place_run-at.result c.place_run-at.ensures.comes_then
 
 pub shape_of-to_glyphs : goal.shape_of-to_glyphs
 shape_of-to_glyphs c = c.loop-k.invariant.same.same_glyphs
@@ -92,4 +92,4 @@ shape_of-to_offsets c = c.loop-k.invariant.same.same_offsets
 pub returns : goal.returns
 returns c =
     let a = c.args in
-    writing-ends a.rtl a.m (columns a.glyphs.now a.widths.now a.categories.now a.ignorables.now a.actions.now a.advances.now a.offsets.now) _ _ c.loop-k.k c.loop-k.at _ c.loop-k.invariant c.loop-k-test.false
+    writing-ends a.rtl a.m (columns_read a.line) _ _ c.loop-k.k c.loop-k.at _ c.loop-k.invariant c.loop-k-test.false

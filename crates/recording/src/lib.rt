@@ -17,9 +17,9 @@ fn new_action(multiplied: u8, component: u8, action: u8) -> u8
         return action;
     }
     if component % 2 == 0 {
-        return Action::FIXED.number();
+        return Action::FIXED.0;
     }
-    Action::REPEATING.number()
+    Action::REPEATING.0
 }
 
 // Records each multiplied record, and says whether there was any. Every action is stored, the old one or the new one, so that the compiler can do many at once.

@@ -42,7 +42,7 @@ fn replay(body: &[u8]) -> Outcome {
         actions,
         masks,
     );
-    let number = cases::same_u8(body, &mut at, &[verdict.number()]);
+    let number = cases::same_u8(body, &mut at, &[refusals::number(&verdict)]);
     let acted = cases::same_u8(body, &mut at, actions);
     let masked = cases::same_u32(body, &mut at, masks);
     let formed = cases::is_flag(mongolian) & ((given == 7) & (at == body.len()));

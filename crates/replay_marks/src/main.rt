@@ -45,8 +45,8 @@ fn replay(body: &[u8]) -> Outcome {
         lent[0],
         lent[1],
     );
-    let numbered = cases::same_u8(body, &mut at, &[answer.number()]);
-    let merged = same_merged(body, &mut at, answer.merged());
+    let numbered = cases::same_u8(body, &mut at, &[refusals::number(&answer)]);
+    let merged = same_merged(body, &mut at, answer.unwrap_or(Merged::Nothing));
     let coded = cases::same_u32(body, &mut at, codes);
     let classed = cases::same_u8(body, &mut at, classes);
     let formed = (starts == 1) & ((ends == 1) & ((given == 2) & (at == body.len())));

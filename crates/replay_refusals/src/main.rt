@@ -13,13 +13,16 @@ fn numbers(n: usize, m: usize, most: usize, column: &[u8], bound: u8, codes: &[u
     let long = refusals::unless(n <= most, Refusal::TooLong);
     let strange = refusals::unless(refusals::within(column, bound), Refusal::OutOfRange);
     let falling = refusals::rising(codes);
-    let smallest = falling.sooner(long).sooner(strange.sooner(uneven));
+    let smallest = refusals::sooner(
+        refusals::sooner(falling, long),
+        refusals::sooner(strange, uneven),
+    );
     [
-        uneven.number(),
-        long.number(),
-        strange.number(),
-        falling.number(),
-        smallest.number(),
+        refusals::number(&uneven),
+        refusals::number(&long),
+        refusals::number(&strange),
+        refusals::number(&falling),
+        refusals::number(&smallest),
     ]
 }
 

@@ -59,7 +59,7 @@ fn replay(body: &[u8]) -> Outcome {
             category: Category(cases::first_u8(category)),
         },
     );
-    let number = cases::same_u8(body, &mut at, &[verdict.number()]);
+    let number = cases::same_u8(body, &mut at, &[refusals::number(&verdict)]);
     let coded = cases::same_u32(body, &mut at, codes);
     let typed = cases::same_u8(body, &mut at, types);
     let sorted = cases::same_u8(body, &mut at, categories);

@@ -56,7 +56,7 @@ fn replay(body: &[u8]) -> Outcome {
             category: Category(cases::first_u8(category)),
         },
     );
-    let number = cases::same_u8(body, &mut at, &[verdict.number()]);
+    let number = cases::same_u8(body, &mut at, &[refusals::number(&verdict)]);
     let coded = cases::same_u32(body, &mut at, codes);
     let sorted = cases::same_u8(body, &mut at, categories);
     let acted = cases::same_u8(body, &mut at, actions);

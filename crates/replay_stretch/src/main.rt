@@ -54,8 +54,8 @@ fn replay(body: &[u8]) -> Outcome {
         to_advances,
         to_offsets,
     );
-    let numbered = cases::same_u8(body, &mut at, &[answer.number()]);
-    let counted = cases::same_u32(body, &mut at, &[cases::narrow(answer.length())]);
+    let numbered = cases::same_u8(body, &mut at, &[refusals::number(&answer)]);
+    let counted = cases::same_u32(body, &mut at, &[cases::narrow(answer.unwrap_or(0))]);
     let glyphs_same = cases::same_u32(body, &mut at, to_glyphs);
     let widths_same = cases::same_i32(body, &mut at, to_widths);
     let categories_same = cases::same_u8(body, &mut at, to_categories);

@@ -27,7 +27,6 @@ use fallback::{FallbackPlan, Needs};
 use letters::{Category, Code, JoiningType};
 use lines::Manner;
 use marks::Merged;
-use reading::Answer;
 use replacing::Request;
 
 // Joins a line (`lines::join_line`).
@@ -67,7 +66,7 @@ pub extern "C" fn tt_join_line(
         actions,
         masks,
     );
-    verdict.number()
+    refusals::number(&verdict)
 }
 
 // Replaces a letter of a held line (`replacing::replace_letter`).
@@ -118,7 +117,7 @@ pub extern "C" fn tt_replace_letter(
             category: Category(category),
         },
     );
-    verdict.number()
+    refusals::number(&verdict)
 }
 
 // Reorders the modifier marks of a part of a line (`marks::reorder_modifier_combining_marks`).
@@ -137,7 +136,7 @@ pub extern "C" fn tt_reorder_modifier_combining_marks(
         After result (told count.new ranges.new c.exit) ≡ seen told_of (reorder_after (reorder_request start end low high) c.entry) }
 {
     match marks::reorder_modifier_combining_marks(codes, classes, start, end, low, high) {
-        marks::Answer::Reordered(merged) => match merged {
+        Ok(merged) => match merged {
             Merged::Nothing => {
                 *count = 0;
                 *ranges = [0, 0, 0, 0];
@@ -154,7 +153,7 @@ pub extern "C" fn tt_reorder_modifier_combining_marks(
                 0
             }
         },
-        marks::Answer::Refused(refusal) => {
+        Err(refusal) => {
             *count = 0;
             *ranges = [0, 0, 0, 0];
             refusal.number()
@@ -175,8 +174,8 @@ pub extern "C" fn tt_record_stch(
         After result (record_outcome recorded.new actions.new) ≡ record_after q actions.old }
 {
     let answer = recording::record_stch(mask, multiplied, components, actions);
-    *recorded = answer.recorded();
-    answer.number()
+    *recorded = answer.unwrap_or(false);
+    refusals::number(&answer)
 }
 
 // Stretches the recorded runs of a line (`stretching::stretch`).
@@ -222,8 +221,8 @@ pub extern "C" fn tt_stretch(
         to_advances,
         to_offsets,
     );
-    *length = answer.length();
-    answer.number()
+    *length = answer.unwrap_or(0);
+    refusals::number(&answer)
 }
 
 // Writes a single lookup (`singles::serialize_single_lookup`).
@@ -239,8 +238,8 @@ pub extern "C" fn tt_serialize_single_lookup(
         After result (write_outcome length.new area.new) ≡ write_after l area.old }
 {
     let written = singles::serialize_single_lookup(glyphs, substitutes, flags, area);
-    *length = written.length();
-    written.number()
+    *length = written.unwrap_or(0);
+    refusals::number(&written)
 }
 
 // Writes a ligature lookup (`ligatures::serialize_ligature_lookup`).
@@ -257,8 +256,8 @@ pub extern "C" fn tt_serialize_ligature_lookup(
         After result (write_outcome length.new area.new) ≡ write_after l area.old }
 {
     let written = ligatures::serialize_ligature_lookup(n, components, ligatures, flags, area);
-    *length = written.length();
-    written.number()
+    *length = written.unwrap_or(0);
+    refusals::number(&written)
 }
 
 // Reads a lookup back (`reading::read_lookup`).
@@ -276,7 +275,7 @@ pub extern "C" fn tt_read_lookup(
         After result (read_as kind.new components.new flags.new count.new list.exit) ≡ read_after bytes.now list.entry }
 {
     match reading::read_lookup(bytes, glyphs, substitutes) {
-        Answer::Read(lookup) => {
+        Ok(lookup) => {
             let as_read = lookup.kind;
             *kind = reading::type_of(as_read);
             *components = reading::components_of(as_read);
@@ -284,7 +283,7 @@ pub extern "C" fn tt_read_lookup(
             *count = lookup.len;
             0
         }
-        Answer::Refused(refusal) => {
+        Err(refusal) => {
             *kind = 0;
             *components = 0;
             *flags = 0;
@@ -316,7 +315,7 @@ pub extern "C" fn tt_fallback_plan(
     ensures { let i = inputs_lent masks.now codes glyphs shaping forms three_components three_ligatures two_components two_ligatures mark_components mark_ligatures in
         After result (plan_told count entry_masks entry_lengths area) ≡ plan_after i area.old }
 {
-    let plan = FallbackPlan::new(
+    match FallbackPlan::new(
         *masks,
         codes,
         glyphs,
@@ -329,14 +328,22 @@ pub extern "C" fn tt_fallback_plan(
         mark_components,
         mark_ligatures,
         area,
-    );
-    let verdict = plan.verdict;
-    let own_masks = plan.masks;
-    let own_lengths = plan.lengths;
-    *count = plan.count;
-    *entry_masks = own_masks;
-    *entry_lengths = own_lengths;
-    verdict.number()
+    ) {
+        Ok(plan) => {
+            let own_masks = plan.masks;
+            let own_lengths = plan.lengths;
+            *count = plan.count;
+            *entry_masks = own_masks;
+            *entry_lengths = own_lengths;
+            0
+        }
+        Err(refusal) => {
+            *count = 0;
+            *entry_masks = [0; 7];
+            *entry_lengths = [0; 7];
+            refusal.number()
+        }
+    }
 }
 
 // Whether the fallback is used (`fallback::do_fallback`).

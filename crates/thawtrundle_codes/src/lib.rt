@@ -60,7 +60,7 @@ pub extern "C" fn tt_join_codes(
         actions,
         masks,
     );
-    verdict.number()
+    refusals::number(&verdict)
 }
 
 // Replaces a letter of a held line by a code and a category (`coded::replace_code`).
@@ -107,5 +107,5 @@ pub extern "C" fn tt_replace_code(
             category: Category(category),
         },
     );
-    verdict.number()
+    refusals::number(&verdict)
 }

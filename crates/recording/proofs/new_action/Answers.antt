@@ -14,10 +14,10 @@ returns-then-multiplied-eq0 c = rw (eq-eqb c.args.multiplied 0 c.if-multiplied-e
 pub returns-then-component-eq0 : goal.returns-then-component-eq0
 unfolding new_action_lem
 returns-then-component-eq0 c =
-    rw (c.number.ensures, ne_eqb c.args.multiplied 0 c.if-multiplied-eq0.false, c.if-component-eq0.true)
+    rw (ne_eqb c.args.multiplied 0 c.if-multiplied-eq0.false, c.if-component-eq0.true)
 
 pub returns : goal.returns
 unfolding new_action_lem
 returns c =
     let odd : c.args.component % 2 ≡ 1 = omega (arith, c.if-component-eq0.false) in
-    rw (c.number-2.ensures, ne_eqb c.args.multiplied 0 c.if-multiplied-eq0.false, odd)
+    rw (ne_eqb c.args.multiplied 0 c.if-multiplied-eq0.false, odd)

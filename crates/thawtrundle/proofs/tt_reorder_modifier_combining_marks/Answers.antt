@@ -5,16 +5,16 @@ use Rattle.thawtrundle.proofs.tt_reorder_modifier_combining_marks.Goals as goal
 
 pub returns-in-Nothing : goal.returns-in-Nothing
 returns-in-Nothing c =
-    reordered_as _ _ c.reorder_modifier_combining_marks.ensures c.in-Reordered.merged c.in-Reordered.is (rw c.in-Nothing.is) (rw c.in-Nothing.is)
+    reordered_as _ _ c.reorder_modifier_combining_marks.ensures c.in-Ok.merged c.in-Ok.is (rw c.in-Nothing.is) (rw c.in-Nothing.is)
 
 pub returns-in-One : goal.returns-in-One
 returns-in-One c =
-    reordered_as _ _ c.reorder_modifier_combining_marks.ensures c.in-Reordered.merged c.in-Reordered.is (rw c.in-One.is) (rw c.in-One.is)
+    reordered_as _ _ c.reorder_modifier_combining_marks.ensures c.in-Ok.merged c.in-Ok.is (rw c.in-One.is) (rw c.in-One.is)
 
 pub returns-in-Two : goal.returns-in-Two
 returns-in-Two c =
-    reordered_as _ _ c.reorder_modifier_combining_marks.ensures c.in-Reordered.merged c.in-Reordered.is (rw c.in-Two.is) (rw c.in-Two.is)
+    reordered_as _ _ c.reorder_modifier_combining_marks.ensures c.in-Ok.merged c.in-Ok.is (rw c.in-Two.is) (rw c.in-Two.is)
 
-pub returns-in-Refused : goal.returns-in-Refused
-returns-in-Refused c =
-    unmoved_as _ _ c.reorder_modifier_combining_marks.ensures c.in-Refused.refusal c.in-Refused.is c.number.ensures
+pub returns-in-Err : goal.returns-in-Err
+returns-in-Err c =
+    unmoved_as _ _ c.reorder_modifier_combining_marks.ensures c.in-Err.refusal c.in-Err.is c.number.ensures

@@ -1,9 +1,10 @@
 -- `tt_serialize_ligature_lookup` meets its contract.
 -- Assumes nothing.
+use mathlib.Core.Path.{◌∙◌}
 use Rattle.layouts.specs.Written.{write_outcome}
-use Rattle.thawtrundle.proofs.ToldLaws.{handed_with}
+use Rattle.thawtrundle.proofs.ToldLaws.{handed_with, told_bytes}
 use Rattle.thawtrundle.proofs.tt_serialize_ligature_lookup.Goals as goal
 
 pub returns : goal.returns
 returns c =
-    handed_with write_outcome _ c.number.ensures c.length.ensures c.serialize_ligature_lookup-written.ensures
+    handed_with write_outcome _ c.number.ensures (c.unwrap_or.ensures ∙ told_bytes c.serialize_ligature_lookup-written.result) c.serialize_ligature_lookup-written.ensures

@@ -5,7 +5,7 @@ use mathlib.Core.Path.{◌≡◌, ◌∙◌}
 use Prim.Native.Nat.{◌+◌, ◌-◌, ◌*◌, ◌<◌, ◌≤◌}
 use lib.ListN.{length}
 use Rattle.scanning.specs.Grammar.{set_size}
-use Rattle.filling.proofs.SetsLaws.{filling_begins, filling_reads, filling_fits, filling_next, filling_ends}
+use Rattle.filling.proofs.SetsLaws.{filling_reads, filling_fits, filling_next, filling_ends}
 use Rattle.filling.proofs.fill_sets.Goals as goal
 use Rattle.filling.proofs.fill_sets.Goals.{After-u16_at-lead, In-loop-k}
 
@@ -33,25 +33,6 @@ near u =
     let g = u.loop-k.invariant in
     (omega (arith, f.0), omega (arith, f.1.0, g.long), omega (arith, f.1.1, g.wide))
 
-pub overflow_mul-leads : goal.overflow_mul-leads
-overflow_mul-leads c = omega (arith, c.requires.le_n.2)
-
-pub overflow_add-leads : goal.overflow_add-leads
-overflow_add-leads c = omega (arith, c.requires.le_n.2)
-
-pub overflow_mul-p : goal.overflow_mul-p
-overflow_mul-p c = omega (arith, c.requires.le_n.2)
-
-pub overflow_add-p : goal.overflow_add-p
-overflow_add-p c = omega (arith, c.requires.le_n.2)
-
-pub loop-k-init : goal.loop-k-init
-loop-k-init c =
-    let a = c.args in
-    let all : a.s - 0 ≡ a.s = omega arith in
-    let start : 18 + 2 * a.s + 0 ≡ 18 + 2 * a.s = omega arith in
-    rw (all, start) (filling_begins a.n a.s a.bytes.now a.components.now a.ligatures.now c.requires.bytes_in_bounds.0 c.requires.bytes_in_bounds.1)
-
 pub u16_at-requires : goal.u16_at-requires
 u16_at-requires c = omega (arith, (reads-next (goal.at.u16_at-requires c).In-loop-k).0)
 
@@ -61,9 +42,6 @@ u16_at-lead-requires c = omega (arith, (reads-next (goal.at.u16_at-lead-requires
 pub overflow_add-p-in-loop-k : goal.overflow_add-p-in-loop-k
 overflow_add-p-in-loop-k c = omega (arith, (near (goal.at.overflow_add-p-in-loop-k c).After-u16_at-lead).0)
 
-pub overflow_mul-c : goal.overflow_mul-c
-overflow_mul-c c = omega (arith, (near (goal.at.overflow_mul-c c).After-u16_at-lead).0)
-
 pub overflow_add-p-in-loop-k-2 : goal.overflow_add-p-in-loop-k-2
 overflow_add-p-in-loop-k-2 c = omega (arith, (near (goal.at.overflow_add-p-in-loop-k-2 c).After-u16_at-lead).0)
 
@@ -72,37 +50,9 @@ fill_rules-requires c =
     let f = fits (goal.at.fill_rules-requires c).After-u16_at-lead in
     (omega (arith, f.0), omega (arith, f.1.0), omega (arith, f.1.1))
 
-pub overflow_mul-p-in-loop-k : goal.overflow_mul-p-in-loop-k
-overflow_mul-p-in-loop-k c =
-    omega (arith, c.requires.le_n.1)
-
-pub overflow_add-p-in-loop-k-3 : goal.overflow_add-p-in-loop-k-3
-overflow_add-p-in-loop-k-3 c =
-    omega (arith, c.requires.le_n.1)
-
-pub overflow_mul-p-in-loop-k-2 : goal.overflow_mul-p-in-loop-k-2
-overflow_mul-p-in-loop-k-2 c =
-    omega (arith, (near (goal.at.overflow_mul-p-in-loop-k-2 c).After-u16_at-lead).0)
-
-pub overflow_add-p-in-loop-k-4 : goal.overflow_add-p-in-loop-k-4
-overflow_add-p-in-loop-k-4 c =
-    omega (arith, (near (goal.at.overflow_add-p-in-loop-k-4 c).After-u16_at-lead).0)
-
 pub overflow_add-p-in-loop-k-5 : goal.overflow_add-p-in-loop-k-5
 overflow_add-p-in-loop-k-5 c =
     omega (arith, (near (goal.at.overflow_add-p-in-loop-k-5 c).After-u16_at-lead).0)
-
-pub overflow_mul-x : goal.overflow_mul-x
-overflow_mul-x c =
-    omega (arith, (near (goal.at.overflow_mul-x c).After-u16_at-lead).1)
-
-pub overflow_add-x : goal.overflow_add-x
-overflow_add-x c =
-    omega (arith, (near (goal.at.overflow_add-x c).After-u16_at-lead).1)
-
-pub overflow_add-i : goal.overflow_add-i
-overflow_add-i c =
-    omega (arith, (near (goal.at.overflow_add-i c).After-u16_at-lead).2)
 
 pub loop-k-preserved : goal.loop-k-preserved
 loop-k-preserved c =
@@ -114,12 +64,6 @@ loop-k-preserved c =
     (omega (arith, c.loop-k-test.true)) (omega (arith, c.requires.le_n.0)) c.requires.le_n.3 c.from-c.result c.u16_at-lead.result (c.from-c.ensures ∙ c.u16_at.ensures) c.u16_at-lead.ensures _ _ c.fill_rules.ensures
     in
     rw (less, on) at next
-
-pub shape_of-components : goal.shape_of-components
-shape_of-components c = c.loop-k.invariant.long
-
-pub shape_of-ligatures : goal.shape_of-ligatures
-shape_of-ligatures c = c.loop-k.invariant.wide
 
 pub returns : goal.returns
 returns c =

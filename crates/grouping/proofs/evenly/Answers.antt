@@ -14,16 +14,6 @@ use Rattle.grouping.proofs.evenly.Goals.{In-loop-i}
 some : (s : In-loop-i) → 0 < s.args.c - s.loop-i.i
 some s = omega (arith, s.loop-i-test.true)
 
-pub loop-i-init : goal.loop-i-init
-loop-i-init c =
-    let a = c.args in
-    let all : a.c - 0 ≡ a.c = omega arith in
-    let start : a.at + 0 ≡ a.at = omega arith in
-    (omega (arith, c.requires.0), rw all, λ r t. rw (all, start) at t)
-
-pub overflow_sub-bytes : goal.overflow_sub-bytes
-overflow_sub-bytes c = omega (arith, c.loop-i.invariant.0)
-
 pub returns-then-bytes-p-lt2 : goal.returns-then-bytes-p-lt2
 returns-then-bytes-p-lt2 c =
     let a = c.args in
@@ -35,12 +25,6 @@ returns-then-from-o c =
     let a = c.args in
     let l = c.loop-i in
     l.invariant.2 (Err (Wrong (a.at + 2 * l.i))) (rw (evenly-next (a.c - l.i) l.o a.by (some (goal.at.returns-then-from-o c).In-loop-i)) (these-wrong _ _ a.bytes.now (a.at + 2 * l.i) (omega (arith, l.invariant.0, c.if-bytes-p-lt2.false)) (λ q. c.if-from-o.true (c.from.ensures ∙ c.u16_at.ensures ∙ q))))
-
-pub overflow_add-o : goal.overflow_add-o
-overflow_add-o c =
-    let a = c.args in
-    let l = c.loop-i in
-    omega (arith, l.invariant.1, c.requires.1, more (a.c - l.i) a.by (some (goal.at.overflow_add-o c).In-loop-i))
 
 pub loop-i-preserved : goal.loop-i-preserved
 loop-i-preserved c =

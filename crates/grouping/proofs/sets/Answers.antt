@@ -6,7 +6,7 @@ use Prim.Native.Nat.{◌+◌, ◌-◌, ◌*◌, ◌<◌}
 use Rattle.words.specs.Words.{words_at}
 use Rattle.accepting.proofs.TookLaws.{handed}
 use Rattle.grouping.specs.Grouped.{may_have_lem}
-use Rattle.grouping.proofs.GoingLaws.{Going, going_begins, going_short, going_wrong, going_stops, going_next, going_ends}
+use Rattle.grouping.proofs.GoingLaws.{Going, going_short, going_wrong, going_stops, going_next, going_ends}
 use Rattle.grouping.proofs.sets.Goals as goal
 use Rattle.grouping.proofs.sets.Goals.{In-loop-i, After-may_have}
 
@@ -19,28 +19,11 @@ tested s =
     let less : s.args.s - 1 - s.loop-i.i ≡ s.args.s - s.loop-i.i - 1 = omega arith in
     rw less at s.may_have.ensures
 
-pub loop-i-init : goal.loop-i-init
-loop-i-init c =
-    let all : c.args.s - 0 ≡ c.args.s = omega arith in
-    rw all (going_begins c.args.n c.args.s c.args.bytes.now c.requires.3)
-
-pub overflow_sub-bytes : goal.overflow_sub-bytes
-overflow_sub-bytes c = omega (arith, c.loop-i.invariant.within)
-
 pub returns-then-bytes-p-lt2 : goal.returns-then-bytes-p-lt2
 returns-then-bytes-p-lt2 c =
     let a = c.args in
     let l = c.loop-i in
     going_short a.n a.s a.bytes.now (a.s - l.i) l.o (16 + 2 * l.i) l.p l.invariant (some (goal.at.returns-then-bytes-p-lt2 c).In-loop-i) (omega (arith, l.invariant.within, c.if-bytes-p-lt2.true))
-
-pub may_have-requires : goal.may_have-requires
-may_have-requires c =
-    let g = c.loop-i.invariant in
-    (omega (arith, c.from-c.ensures, c.u16_at.type_inv), omega (arith, g.small, g.upto, c.requires.2), omega (arith, g.places, c.requires.3, c.loop-i-test.true))
-
-pub set-requires : goal.set-requires
-set-requires c =
-    (omega (arith, c.loop-i.invariant.within, c.if-bytes-p-lt2.false), c.requires.0, omega (arith, c.from-c.ensures, c.u16_at.type_inv))
 
 pub returns-in_err-p : goal.returns-in_err-p
 returns-in_err-p c =

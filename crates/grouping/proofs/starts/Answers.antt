@@ -13,10 +13,6 @@ returns-in_err-p c =
     let a = c.args in
     rw (handed c.from_residual.ensures) (starts-stops a.n a.bytes.now a.at a.s (omega (arith, c.if-s-eq0.false)) _ c.in_err-p.ensures)
 
-pub later-requires : goal.later-requires
-later-requires c =
-    (c.in_ok-p.ensures.place.1, omega (arith, c.requires.2))
-
 pub returns : goal.returns
 returns c =
     let a = c.args in

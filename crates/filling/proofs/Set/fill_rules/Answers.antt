@@ -4,7 +4,7 @@ use native.Mathlib.Omega.{arith}
 use mathlib.Core.Path.{◌≡◌}
 use Prim.Native.Nat.{◌+◌, ◌-◌, ◌*◌, ◌<◌, ◌≤◌}
 use lib.ListN.{length}
-use Rattle.filling.proofs.FillLaws.{going_begins, going_fits, going_next, going_ends}
+use Rattle.filling.proofs.FillLaws.{going_fits, going_next, going_ends}
 use Rattle.filling.proofs.Set.fill_rules.Goals as goal
 use Rattle.filling.proofs.Set.fill_rules.Goals.{In-loop-j}
 
@@ -14,12 +14,6 @@ room l =
     let a = l.args in
     going_fits a.self.n a.self.lead a.c a.self.bytes.now a.at a.components.now a.x a.ligatures.now a.i (a.i + a.c - l.loop-j.j) l.loop-j.p l.loop-j.y l.loop-j.j l.loop-j.components l.loop-j.ligatures l.loop-j.invariant
     (omega (arith, l.loop-j-test.true)) (omega (arith, l.args.self.low)) l.requires.1 l.requires.2 l.requires.0
-
-pub loop-j-init : goal.loop-j-init
-loop-j-init c =
-    let a = c.args in
-    let all : a.i + a.c - a.i ≡ a.c = omega arith in
-    rw all (going_begins a.self.n a.self.lead a.c a.self.bytes.now a.at a.components.now a.x a.ligatures.now a.i)
 
 pub fill_rule-requires : goal.fill_rule-requires
 fill_rule-requires c =

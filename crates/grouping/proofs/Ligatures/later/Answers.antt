@@ -8,23 +8,13 @@ use lib.ListN.{length}
 use Rattle.std.specs.Prelude.{Ok, Err}
 use Rattle.words.specs.Words.{word_at}
 use Rattle.accepting.specs.declared.Fault.TheVariants.{Wrong, Short}
-use Rattle.grouping.proofs.StartLaws.{stands, room_fits, later-short, later-low, later-wrong, later_more, later-none}
+use Rattle.grouping.proofs.StartLaws.{stands, later-short, later-low, later-wrong, later_more, later-none}
 use Rattle.grouping.proofs.Ligatures.later.Goals as goal
 use Rattle.grouping.proofs.Ligatures.later.Goals.{In-loop-i}
 
 -- how many offsets are left behind this one, and with it
 behind : (s : In-loop-i) → s.args.count - 1 - s.loop-i.i + 1 ≡ s.args.count - s.loop-i.i
 behind s = omega (arith, s.loop-i-test.true)
-
-pub loop-i-init : goal.loop-i-init
-loop-i-init c =
-    let a = c.args in
-    let all : a.count - 0 ≡ a.count = omega arith in
-    let start : a.at + 0 ≡ a.at = omega arith in
-    (omega (arith, c.requires.0), λ r t. rw (all, start) at t)
-
-pub overflow_sub-self : goal.overflow_sub-self
-overflow_sub-self c = omega (arith, c.loop-i.invariant.0)
 
 pub returns-then-self-p-lt2 : goal.returns-then-self-p-lt2
 returns-then-self-p-lt2 c =
@@ -37,18 +27,6 @@ returns-then-w-o c =
     let a = c.args in
     let l = c.loop-i in
     l.invariant.1 (Err (Wrong (a.at + 2 * l.i))) (rw (← behind (goal.at.returns-then-w-o c).In-loop-i) (later-low a.self.n l.o a.self.bytes.now (a.at + 2 * l.i) (a.count - 1 - l.i) (omega (arith, l.invariant.0, c.if-self-p-lt2.false)) (omega (arith, c.from-w.ensures, c.u16_at.ensures, c.if-w-o.true))))
-
-pub is_size-requires : goal.is_size-requires
-is_size-requires c =
-    omega (arith, c.from-w.ensures, c.u16_at.type_inv)
-
-pub overflow_mul-left : goal.overflow_mul-left
-overflow_mul-left c =
-    omega (arith, room_fits c.args.self.n (c.args.count - 1 - c.loop-i.i) c.args.self.few (omega (arith, c.requires.1)))
-
-pub overflow_add-w : goal.overflow_add-w
-overflow_add-w c =
-    omega (arith, room_fits c.args.self.n (c.args.count - 1 - c.loop-i.i) c.args.self.few (omega (arith, c.requires.1)), c.from-w.ensures, c.u16_at.type_inv)
 
 pub loop-i-preserved : goal.loop-i-preserved
 loop-i-preserved c =

@@ -3,43 +3,12 @@
 use native.Mathlib.Omega.{arith}
 use mathlib.Core.Path.{◌∙◌}
 use Rattle.grouping.proofs.SetsLaws.{has_last, has-next}
-use Rattle.grouping.proofs.GoingLaws.{size_fits}
 use Rattle.grouping.proofs.Ligatures.may_have.Goals as goal
-
-pub overflow_mul-result : goal.overflow_mul-result
-overflow_mul-result c = omega (arith, c.args.self.few)
-
-pub overflow_add-result : goal.overflow_add-result
-overflow_add-result c = omega (arith, c.args.self.few)
-
-pub overflow_mul-result-then-left-eq0 : goal.overflow_mul-result-then-left-eq0
-overflow_mul-result-then-left-eq0 c = omega (arith, c.args.self.few)
-
-pub overflow_add-result-then-left-eq0 : goal.overflow_add-result-then-left-eq0
-overflow_add-result-then-left-eq0 c = omega (arith, c.args.self.few)
 
 pub returns-then-left-eq0 : goal.returns-then-left-eq0
 returns-then-left-eq0 c =
     let a = c.args in
     has_last a.self.n a.o a.self.bytes.now a.at a.left a.c c.if-left-eq0.true
-
-pub overflow_mul-result-2 : goal.overflow_mul-result-2
-overflow_mul-result-2 c = omega (arith, c.args.self.few)
-
-pub overflow_add-result-2 : goal.overflow_add-result-2
-overflow_add-result-2 c = omega (arith, c.args.self.few)
-
-pub overflow_mul-result-3 : goal.overflow_mul-result-3
-overflow_mul-result-3 c = omega (arith, size_fits c.args.self.n c.args.c c.args.self.few c.requires.0)
-
-pub overflow_add-result-3 : goal.overflow_add-result-3
-overflow_add-result-3 c = omega (arith, size_fits c.args.self.n c.args.c c.args.self.few c.requires.0)
-
-pub overflow_add-result-4 : goal.overflow_add-result-4
-overflow_add-result-4 c = omega (arith, size_fits c.args.self.n c.args.c c.args.self.few c.requires.0, c.requires.1)
-
-pub u16_at-requires : goal.u16_at-requires
-u16_at-requires c = omega (arith, c.requires.2, c.if-left-eq0.false)
 
 pub returns : goal.returns
 returns c =

@@ -8,11 +8,6 @@ use Rattle.accepting.proofs.TookLaws.{handed}
 use Rattle.grouping.proofs.RuleLaws.{rules-stops, rules-more, rules-none}
 use Rattle.grouping.proofs.Ligatures.rules.Goals as goal
 
-pub loop-i-init : goal.loop-i-init
-loop-i-init c =
-    let all : c.args.c - 0 ≡ c.args.c = omega arith in
-    (c.requires.0, omega arith, λ lead r t. rw all at t)
-
 pub rule-requires : goal.rule-requires
 rule-requires c =
     (c.loop-i.invariant.0, c.requires.1)

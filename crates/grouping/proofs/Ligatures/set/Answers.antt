@@ -1,12 +1,8 @@
 -- `grouping::Ligatures::set` meets its contract.
 -- Assumes nothing.
-use native.Mathlib.Omega.{arith}
 use Rattle.accepting.proofs.TookLaws.{handed}
-use Rattle.grouping.proofs.RuleLaws.{steps-fit, set-stops, set_taken}
+use Rattle.grouping.proofs.RuleLaws.{set-stops, set_taken}
 use Rattle.grouping.proofs.Ligatures.set.Goals as goal
-
-pub evenly-requires : goal.evenly-requires
-evenly-requires c = (c.requires.0, omega (arith, steps-fit c.args.self.n c.args.c c.args.self.few c.requires.2))
 
 pub returns-in_err-p : goal.returns-in_err-p
 returns-in_err-p c = λ lead.

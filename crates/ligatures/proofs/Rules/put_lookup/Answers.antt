@@ -38,17 +38,9 @@ pub put_words-leaders-requires : goal.put_words-leaders-requires
 put_words-leaders-requires c =
     omega (arith, long (search), c.put_words-offsets.ensures.place, c.put_words-offsets.ensures.same)
 
-pub overflow_add-leaders : goal.overflow_add-leaders
-overflow_add-leaders c =
-    omega (arith, small (search), c.put_words-offsets.ensures.place, c.put_words-leaders.ensures.place)
-
 pub put_sets-requires : goal.put_sets-requires
 put_sets-requires c =
     (sets-room c.args.flags c.args.self.n c.args.self.components.now c.args.self.ligatures.now c.args.sets c.requires.0 c.requires.1 c.requires.2 c.put_words-offsets.ensures (omega arith) c.put_words-leaders.ensures)
-
-pub shape_of-area : goal.shape_of-area
-shape_of-area c =
-    (lookup-written c.args.flags c.args.self.n c.args.self.components.now c.args.self.ligatures.now c.args.sets c.requires.0 c.requires.1 c.requires.2 c.put_words-offsets.ensures (omega arith) c.put_words-leaders.ensures c.put_sets.ensures.end c.put_sets.ensures.made).same
 
 pub returns : goal.returns
 returns c =

@@ -24,16 +24,9 @@ pub put_u16-a-requires : goal.put_u16-a-requires
 put_u16-a-requires c =
     omega (arith, c.requires.1, long (search))
 
-pub overflow_cast-self : goal.overflow_cast-self
-overflow_cast-self c =
-    omega (arith, c.args.self.shape.high)
-
 pub put_u16-b-requires : goal.put_u16-b-requires
 put_u16-b-requires c =
     omega (arith, c.requires.1, c.put_u16-a.ensures.place, c.put_u16-a.ensures.same, long (search))
-
-pub overflow_mul-k : goal.overflow_mul-k
-overflow_mul-k c = omega (arith, there (search))
 
 pub put_others-requires : goal.put_others-requires
 put_others-requires c =

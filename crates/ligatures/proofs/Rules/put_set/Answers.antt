@@ -15,9 +15,6 @@ use Rattle.ligatures.proofs.Rules.put_set.Goals.{Start}
 long : (s : Start) → s.args.at + 2 + 2 * (s.args.e - s.args.i) ≤ length s.args.area.now
 long s = omega (arith, s.requires.3, set_long s.args.self.n s.args.self.components.now s.args.self.ligatures.now s.args.i s.args.e s.requires.1)
 
-pub overflow_sub-count : goal.overflow_sub-count
-overflow_sub-count c = c.requires.0
-
 pub overflow_cast-count : goal.overflow_cast-count
 overflow_cast-count c =
     omega (arith, count_fits c.args.self.n c.args.self.components.now c.args.self.ligatures.now c.args.i c.args.e c.requires.1 c.requires.2)
@@ -26,20 +23,9 @@ pub put_u16-offset-requires : goal.put_u16-offset-requires
 put_u16-offset-requires c =
     omega (arith, long (search))
 
-pub overflow_mul-rule : goal.overflow_mul-rule
-overflow_mul-rule c =
-    omega (arith, long (search))
-
-pub overflow_add-rule : goal.overflow_add-rule
-overflow_add-rule c =
-    omega (arith, long (search), c.put_u16-offset.ensures.place)
-
 pub loop-k-init : goal.loop-k-init
 loop-k-init c =
     set-begins c.args.self.n c.args.self.components.now c.args.self.ligatures.now c.args.i c.args.e c.requires.1 c.requires.2 c.requires.3 c.put_u16-offset.ensures c.requires.0
-
-pub overflow_sub-rule : goal.overflow_sub-rule
-overflow_sub-rule c = omega (arith, c.loop-k.invariant.begins)
 
 pub overflow_cast-rule : goal.overflow_cast-rule
 overflow_cast-rule c =
@@ -59,10 +45,6 @@ put_rule-rule-requires c =
 pub loop-k-preserved : goal.loop-k-preserved
 loop-k-preserved c =
     rule_turn c.loop-k.invariant (omega (arith, c.loop-k-test.true)) c.requires.1 c.put_u16-offset-in-loop-k.ensures c.put_rule-rule.ensures _ (omega arith)
-
-pub shape_of-area : goal.shape_of-area
-shape_of-area c =
-    (set-ends c.args.self.n c.args.self.components.now c.args.self.ligatures.now c.args.i c.args.e c.requires.1 c.requires.2 c.requires.3 c.put_u16-offset.ensures (omega (arith, c.loop-k-test.false)) c.loop-k.invariant).same
 
 pub returns : goal.returns
 returns c =

@@ -1,25 +1,16 @@
 -- `ligatures::Rules::put_sets` meets its contract: what is written, with the offsets, leaders and sets to come, is the whole.
 -- Assumes nothing.
 use mathlib.Core.List.{[], ◌∷◌}
-use Prim.Native.Nat.{◌-◌, ◌*◌}
+use Prim.Native.Nat.{◌-◌}
 use native.Mathlib.Omega.{arith}
-use lib.ListN.{get_or}
 use Rattle.layouts.specs.Tables.{set_words}
 use Rattle.ligatures.specs.Places.{part}
-use Rattle.ligatures.proofs.PlaceLaws.{inside}
-use Rattle.ligatures.proofs.ApartLaws.{room-first, room-second, room_third}
+use Rattle.ligatures.proofs.ApartLaws.{room-first, room_third}
 use Rattle.ligatures.proofs.TurnLaws.{sets-begin, set_next, set_turn, sets_end, sets_same}
 use Rattle.ligatures.proofs.Rules.put_sets.Goals as goal
 
 pub loop-i-init : goal.loop-i-init
 loop-i-init c = sets-begin c.requires
-
-pub set_end-e-requires : goal.set_end-e-requires
-set_end-e-requires c =
-    c.loop-i-test.true
-
-pub overflow_sub-set : goal.overflow_sub-set
-overflow_sub-set c = omega (arith, c.loop-i.invariant.begins)
 
 pub overflow_cast-set : goal.overflow_cast-set
 overflow_cast-set c =
@@ -28,22 +19,6 @@ overflow_cast-set c =
 pub put_u16-offset-requires : goal.put_u16-offset-requires
 put_u16-offset-requires c =
     room-first ((c.loop-i.set - 8) ∷ []) _ (set_next c.loop-i.invariant c.args.self.shape c.set_end-e.ensures).coming
-
-pub overflow_mul-i : goal.overflow_mul-i
-overflow_mul-i c =
-    omega (arith, inside c.loop-i.i c.args.self.shape c.loop-i-test.true)
-
-pub offset_bounds-self-i : goal.offset_bounds-self-i
-offset_bounds-self-i c =
-    omega (arith, inside c.loop-i.i c.args.self.shape c.loop-i-test.true)
-
-pub bounds-self-i : goal.bounds-self-i
-bounds-self-i c =
-    omega (arith, inside c.loop-i.i c.args.self.shape c.loop-i-test.true, c.args.self.shape.low)
-
-pub put_u16-leader-requires : goal.put_u16-leader-requires
-put_u16-leader-requires c =
-    omega (arith, c.put_u16-offset.ensures.same, room-second (get_or c.args.self.components.now (c.loop-i.i * c.args.self.n) 0 ∷ []) _ (set_next c.loop-i.invariant c.args.self.shape c.set_end-e.ensures).coming)
 
 pub put_set-set-requires : goal.put_set-set-requires
 put_set-set-requires c =

@@ -4,30 +4,11 @@ use mathlib.Core.Path.{◌≡◌, refl}
 use Prim.Native.Nat.{◌*◌}
 use native.Mathlib.Omega.{arith}
 use lib.ListN.{length, get_or}
-use Rattle.ligatures.proofs.PlaceLaws.{inside, run_on, run_ends, run-over, set_found}
+use Rattle.ligatures.proofs.PlaceLaws.{run_on, run_ends, run-over, set_found}
 use Rattle.ligatures.proofs.Rules.set_end.Goals as goal
-
-pub overflow_mul-leader : goal.overflow_mul-leader
-overflow_mul-leader c = omega (arith, inside c.args.i c.args.self.shape c.requires)
-
-pub offset_bounds-self-i : goal.offset_bounds-self-i
-offset_bounds-self-i c = omega (arith, inside c.args.i c.args.self.shape c.requires)
-
-pub bounds-self-i : goal.bounds-self-i
-bounds-self-i c = omega (arith, inside c.args.i c.args.self.shape c.requires, c.args.self.shape.low)
 
 pub loop-e-init : goal.loop-e-init
 loop-e-init c = refl
-
-pub overflow_mul-e : goal.overflow_mul-e
-overflow_mul-e c = omega (arith, inside c.loop-e.e c.args.self.shape c.loop-e-test.true)
-
-pub offset_bounds-self-e : goal.offset_bounds-self-e
-offset_bounds-self-e c = omega (arith, inside c.loop-e.e c.args.self.shape c.loop-e-test.true)
-
-pub bounds-self-e : goal.bounds-self-e
-bounds-self-e c =
-    omega (arith, inside c.loop-e.e c.args.self.shape c.loop-e-test.true, c.args.self.shape.low)
 
 -- another leader
 pub returns-then-self-e : goal.returns-then-self-e

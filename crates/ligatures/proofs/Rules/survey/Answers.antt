@@ -7,16 +7,6 @@ use Rattle.ligatures.proofs.Rules.survey.Goals as goal
 pub loop-i-init : goal.loop-i-init
 loop-i-init c = survey_begins _ _ _
 
-pub set_end-e-requires : goal.set_end-e-requires
-set_end-e-requires c =
-    c.loop-i-test.true
-
-pub overflow_add-sets : goal.overflow_add-sets
-overflow_add-sets c = omega (arith, c.loop-i.invariant.few, c.loop-i-test.true)
-
-pub overflow_sub-e : goal.overflow_sub-e
-overflow_sub-e c = omega (arith, c.set_end-e.ensures.after)
-
 pub loop-i-smaller : goal.loop-i-smaller
 loop-i-smaller c = let e = c.set_end-e.ensures in omega (arith, e.after, e.within)
 

@@ -48,12 +48,6 @@ allowed c =
     })
     c.args.area.now f.sets f.longest f.last (omega (arith, c.if-extent-size-gt65535.false)) (omega (arith, c.if-self-extent.false)) (omega (arith, c.if-area-extent.false))
 
-pub overflow_mul-size : goal.overflow_mul-size
-overflow_mul-size c = omega (arith, size_small (goal.at.overflow_mul-size c).After-survey-extent)
-
-pub overflow_add-size : goal.overflow_add-size
-overflow_add-size c = omega (arith, size_small (goal.at.overflow_add-size c).After-survey-extent)
-
 pub overflow_mul-extent : goal.overflow_mul-extent
 overflow_mul-extent c = omega (arith, sets-small (goal.at.overflow_mul-extent c).After-survey-extent)
 
@@ -72,12 +66,6 @@ returns-then-extent-size-gt65535 c =
     let f = c.survey-extent.ensures in
     offset_refused (lent (goal.at.returns-then-extent-size-gt65535 c).After-survey-extent) c.args.area.now f.sets f.last (omega (arith, c.if-extent-size-gt65535.true))
 
-pub overflow_mul-self : goal.overflow_mul-self
-overflow_mul-self c = omega (arith, size_small (goal.at.overflow_mul-self c).After-survey-extent)
-
-pub overflow_add-self : goal.overflow_add-self
-overflow_add-self c = omega (arith, size_small (goal.at.overflow_add-self c).After-survey-extent)
-
 pub overflow_mul-extent-3 : goal.overflow_mul-extent-3
 overflow_mul-extent-3 c =
     omega (arith, longest-small (goal.at.overflow_mul-extent-3 c).After-survey-extent)
@@ -86,22 +74,6 @@ overflow_mul-extent-3 c =
 pub returns-then-self-extent : goal.returns-then-self-extent
 returns-then-self-extent c =
     set_refused (lent (goal.at.returns-then-self-extent c).After-survey-extent) c.args.area.now c.survey-extent.ensures.longest (omega (arith, c.if-self-extent.true))
-
-pub overflow_mul-extent-4 : goal.overflow_mul-extent-4
-overflow_mul-extent-4 c =
-    omega (arith, sets-small (goal.at.overflow_mul-extent-4 c).After-survey-extent)
-
-pub overflow_add-extent-3 : goal.overflow_add-extent-3
-overflow_add-extent-3 c =
-    omega (arith, sets-small (goal.at.overflow_add-extent-3 c).After-survey-extent)
-
-pub overflow_mul-self-2 : goal.overflow_mul-self-2
-overflow_mul-self-2 c =
-    omega (arith, rules-small (goal.at.overflow_mul-self-2 c).After-survey-extent)
-
-pub overflow_add-extent-4 : goal.overflow_add-extent-4
-overflow_add-extent-4 c =
-    omega (arith, sets-small (goal.at.overflow_add-extent-4 c).After-survey-extent, rules-small (goal.at.overflow_add-extent-4 c).After-survey-extent)
 
 -- the area is shorter than the lookup
 pub returns-then-area-extent : goal.returns-then-area-extent
@@ -113,9 +85,6 @@ pub put_lookup-requires : goal.put_lookup-requires
 put_lookup-requires c =
     let a = allowed (goal.at.put_lookup-requires c).Else-area-extent in
     (c.survey-extent.ensures.sets, a.small, a.enough)
-
-pub shape_of-area : goal.shape_of-area
-shape_of-area c = c.put_lookup.ensures.same
 
 pub returns : goal.returns
 returns c =

@@ -3,11 +3,12 @@
 use mathlib.Core.Path.{◌≡◌, refl, sym, ap, ap₂, ◌∙◌}
 use mathlib.Core.Bool.{Bool, true, false}
 use mathlib.Core.List.{List, [], ◌∷◌, map}
-use Prim.Native.Nat.{ℕ, zero, suc, ◌+◌, ◌*◌, ◌≤◌, ◌<◌}
+use Prim.Native.Nat.{ℕ, ◌+◌, ◌*◌, ◌≤◌, ◌<◌}
 use native.Mathlib.Omega.{arith}
 use borrow.Author.Tests.{eq-eqb, ne_eqb, lt-ltb, le-ltb}
 use lib.ListN.{length, get_or, take, drop, set, length-map, length-drop, drop_of_length-le}
 use lib.Seq.{get_or-take, get_or-drop, length-take-le}
+use Rattle.std.proofs.lemmas.List.{get_or-map}
 use Rattle.laws.specs.Lists.{pasted}
 use Rattle.laws.proofs.LoopLaws.{drop-next}
 use Rattle.laws.proofs.PasteLaws.{paste_one, paste_none}
@@ -50,11 +51,6 @@ module _ (f : Font) (code form : ℕ) where
             rw (ne_eqb form 0 h, lt-ltb (glyph_of f form) 65536 p.1, lt-ltb (glyph_of f code) 65536 q.1, ← p.0, ← q.0, ne_eqb g s e, z)
 
 -- ---- a ligature row
-map_at : (h : ℕ → ℕ) (l : List ℕ) (j : ℕ) → j < length l → get_or (map h l) j 0 ≡ h (get_or l j 0)
-map_at h [] j r = absurd (omega arith)
-map_at h (x ∷ xs) zero r = refl
-map_at h (x ∷ xs) (suc j) r = map_at h xs j (omega arith)
-
 -- the glyphs of n components from a place on
 abbrev pub glyphs_at : Font → ℕ → List ℕ → ℕ → List ℕ
 glyphs_at f n cs at = map (glyph_of f) (take n (drop at cs))
@@ -71,7 +67,7 @@ module _ (f : Font) (n : ℕ) (cs : List ℕ) (at : ℕ) (room : at + n ≤ leng
 
   pub glyph-of : (j : ℕ) → j < n → get_or (glyphs_at f n cs at) j 0 ≡ glyph_of f (get_or cs (at + j) 0)
   glyph-of j h =
-      map_at (glyph_of f) (take n (drop at cs)) j (omega (arith, length-take-le n (drop at cs) (simp length-drop (omega arith))))
+      get_or-map (glyph_of f) (take n (drop at cs)) j 0 0 (omega (arith, length-take-le n (drop at cs) (simp length-drop (omega arith))))
       ∙ ap (glyph_of f) (get_or-take n (drop at cs) j 0 h ∙ get_or-drop at cs j 0)
 
   pub packing_begins : (target : ℕ) → Packing f n cs at target n target

@@ -1,4 +1,4 @@
--- The rule of one row: of a shaping row, by what the search for its two glyphs answers (`single_zero`, `single_no_form`, `single_no_glyph`, `single_equal`, `single-made`); of a ligature row, whose components have these glyphs (`glyphs_at`, `length-glyphs`, `glyph-of`) and are packed from the last on (`Packing`, `packing_begins`, `packing_next`, `packing_fits`, `packing_stops`, `packing_ends`, `ligature_missing`); of a row of either kind (`kind-single`, `kind-ligature`); put at a place of a column (`keep_one`, `keep-none`).
+-- The rule of one row: of a shaping row, by what the search for its two glyphs answers (`single_zero`, `single_no_form`, `single_no_glyph`, `single_equal`, `single-made`); of a ligature row, whose components have these glyphs (`glyphs_at`, `length-glyphs`, `glyph-of`) and are packed from the last on (`Packing`, `packing_begins`, `packing_next`, `packing_fits`, `packing_stops`, `packing_ends`, `ligature_missing`); put at a place of a column (`keep_one`, `keep-none`).
 -- Assumes nothing.
 use mathlib.Core.Path.{◌≡◌, refl, sym, ap, ap₂, ◌∙◌}
 use mathlib.Core.Bool.{Bool, true, false}
@@ -18,7 +18,7 @@ use Rattle.layouts.proofs.FitLaws.{fits_head, fits-at}
 use Rattle.fonts.specs.Font.{Font, glyph_of}
 use Rattle.packing.specs.Packed.{packed}
 use Rattle.packing.proofs.PackLaws.{pack-bound}
-use Rattle.synthesis.specs.Rules.{kind_of, ruled}
+use Rattle.synthesis.specs.Rules.{ruled}
 use Rattle.synthesis.specs.Made.{packed_in, row_of, pair, gives}
 use Rattle.std.specs.Prelude.{Option, Some, None}
 
@@ -122,14 +122,6 @@ module _ (f : Font) (n : ℕ) (cs : List ℕ) (at : ℕ) (room : at + n ≤ leng
 pub ligature_missing : (f : Font) (n : ℕ) (cs : List ℕ) (at ligature : ℕ) → 65536 ≤ glyph_of f ligature → [] ≡ gives f (Ligature n) (row_of n cs at ligature)
 unfolding ruled fits
 ligature_missing f n cs at ligature m = rw (le-ltb (glyph_of f ligature) 65536 m)
-
--- ---- a row of either kind
-module _ (f : Font) (n : ℕ) (cs : List ℕ) (at ligature : ℕ) {v : List ℕ} where
-  pub kind-single : n ≡ 1 → at + n ≤ length cs → v ≡ gives f Single (pair (get_or cs at 0) ligature) → v ≡ gives f (kind_of n) (row_of n cs at ligature)
-  kind-single e h p = p ∙ rw (e, drop-next cs at 0 (omega arith))
-
-  pub kind-ligature : (n ≡ 1 → ⊥) → v ≡ gives f (Ligature n) (row_of n cs at ligature) → v ≡ gives f (kind_of n) (row_of n cs at ligature)
-  kind-ligature e p = p ∙ rw (ne_eqb n 1 e)
 
 -- ---- what a row gives is put at a place of a column
 pub keep_one : (l : List ℕ) (at : ℕ) {row : Option ℕ} {x : ℕ} → row ≡ Some x → at < length l → (set l at x ≡ pasted (packed_in row) at l) × (at + 1 ≡ at + length (packed_in row))

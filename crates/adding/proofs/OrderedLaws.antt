@@ -1,4 +1,4 @@
--- The rules of rows, as numbers: each has its components and is of 16 bits (`Good`, `good-rules`, `good-order`), and there are no more of them than rows (`few-rules`, `few-order`). So the order of the numbers is that of the rules (`order-packed`), and the numbers are the rules again (`unpacked-all`); those that were collected, put into order (`ordered_collected`).
+-- The rules of rows, as numbers: each has its components and is of 16 bits (`Good`, `good-rules`, `good-order`), and there are no more of them than rows (`few-rules`). So the order of the numbers is that of the rules (`order-packed`), and the numbers are the rules again (`unpacked-all`); those that were collected, put into order (`ordered_collected`).
 -- Assumes nothing.
 use mathlib.Core.Path.{◌≡◌, refl, sym, ap, ap₂, ◌∙◌}
 use mathlib.Core.Bool.{true}
@@ -48,9 +48,6 @@ module _ (f : Font) (s : Rows) where
 
   pub few-rules : length found ≤ s.count
   few-rules = omega (arith, ruled-few f (kind_of s.n) (rows_lent s), length-rows s.count s.n s.each s.k s.components.now s.ligatures.now)
-
-  pub few-order : length (rules_of f s) ≤ s.count
-  few-order = omega (arith, few-rules, length-sorted first found)
 
   order-packed : sorted low (map pack found) ≡ map pack (rules_of f s)
   unfolding low

@@ -1,7 +1,7 @@
 -- Entries of a plan: their bytes, of two lists of entries (`all_append`) and of one entry more (`all_more`); a number more in seven places (`pad_more`).
 -- Assumes nothing.
 use mathlib.Core.Path.{◌≡◌, refl, sym, ap, ◌∙◌}
-use mathlib.Core.List.{List, [], ◌∷◌, ◌++◌, append_assoc, append-nil, map}
+use mathlib.Core.List.{List, [], ◌∷◌, ◌++◌, append_assoc, append-nil, map, map-append}
 use Prim.Native.Nat.{ℕ, ◌<◌}
 use native.Mathlib.Omega.{arith}
 use lib.ListN.{length, drop, set, length-map}
@@ -23,12 +23,8 @@ stored [] (w ∷ z) x h = refl
 stored (y ∷ l) [] x h = absurd (omega arith)
 stored (y ∷ l) (w ∷ z) x h = ap (λ (m : List ℕ). y ∷ m) (stored l z x (omega arith))
 
-map_more : (f : Entry → ℕ) (a : List Entry) (e : Entry) → map f (a ++ (e ∷ [])) ≡ map f a ++ (f e ∷ [])
-map_more f [] e = refl
-map_more f (x ∷ a) e = ap (λ (m : List ℕ). f x ∷ m) (map_more f a e)
-
 -- an entry more: its number stored behind those of the others
 pub pad_more : (f : Entry → ℕ) (a : List Entry) (e : Entry) → length a < 7 → set (padded (map f a)) (length a) (f e) ≡ padded (map f (a ++ (e ∷ [])))
 pad_more f a e h =
     let n : length (map f a) ≡ length a = length-map a f in
-    ap (λ (k : ℕ). set (padded (map f a)) k (f e)) (sym n) ∙ stored (map f a) seven (f e) (omega arith) ∙ ap padded (sym (map_more f a e))
+    ap (λ (k : ℕ). set (padded (map f a)) k (f e)) (sym n) ∙ stored (map f a) seven (f e) (omega arith) ∙ ap padded (sym (map-append f a (e ∷ [])))

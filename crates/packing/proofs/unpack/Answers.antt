@@ -1,6 +1,5 @@
 -- `packing::unpack` meets its contract: the rules that are unpacked and those still to be unpacked are all. The measure is what is left of them.
 -- Assumes nothing.
-use native.Mathlib.Omega.{arith}
 use Rattle.packing.proofs.UnpackLaws.{unpacking_starts, unpacking_room, unpacking_next, unpacking_ends}
 use Rattle.packing.proofs.unpack.Goals as goal
 
@@ -11,10 +10,6 @@ loop-i-init c =
 pub put_digits-ligature-requires : goal.put_digits-ligature-requires
 put_digits-ligature-requires c =
     unpacking_room c.loop-i.invariant c.loop-i-test.true
-
-pub overflow_add-at : goal.overflow_add-at
-overflow_add-at c =
-    omega (arith, unpacking_room c.loop-i.invariant c.loop-i-test.true)
 
 pub loop-i-preserved : goal.loop-i-preserved
 loop-i-preserved c =

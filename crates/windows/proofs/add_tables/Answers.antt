@@ -10,7 +10,7 @@ use Rattle.layouts.specs.Lookups.{flat}
 use Rattle.drafts.specs.Features.{init_of, medi_of, fina_of, rlig_of, ignore_marks}
 use Rattle.drafts.specs.Entries.{Entry, entry}
 use Rattle.drafts.specs.Drafted.{Reached}
-use Rattle.drafts.proofs.DraftLaws.{reached-begin, reached-more, reached-room, rules-added}
+use Rattle.drafts.proofs.DraftLaws.{reached-begin, reached-more, rules-added}
 use Rattle.windows.specs.Tables.{initial, medial, final, lam_alef, shadda}
 use Rattle.windows.proofs.add_tables.Goals as goal
 use Rattle.windows.proofs.add_tables.Goals.{After-add_direct_lookup, After-add_direct_lookup-fina, After-add_direct_lookup-init, After-add_direct_lookup-lam_alef, After-add_direct_lookup-medi, After-new}
@@ -55,36 +55,6 @@ after-fina k p = reached-more p (rules-added (fina_of k.args.masks) ignore_marks
 after-shadda : (k : After-add_direct_lookup) → Reached (to-fina k.args.masks) 4 26696 (length k.args.scratch.now) k.add_direct_lookup-fina.result k.add_direct_lookup-fina.new.scratch → Reached (to-shadda k.args.masks) 5 41050 (length k.args.scratch.now) k.add_direct_lookup.result k.add_direct_lookup.new.scratch
 unfolding flat
 after-shadda k p = reached-more p (rules-added (rlig_of k.args.masks) 0 (Ligature 2) shadda (omega arith) _ _ refl refl k.add_direct_lookup.ensures) k.add_direct_lookup.auto.scratch
-
-pub add_direct_lookup-lam_alef-requires : goal.add_direct_lookup-lam_alef-requires
-add_direct_lookup-lam_alef-requires c =
-    let w = goal.at.add_direct_lookup-lam_alef-requires c in
-    reached-room (begins w.After-new) (omega arith) (Ligature 2) (omega (arith, c.requires)) (omega (arith, c.requires))
-
-pub add_direct_lookup-init-requires : goal.add_direct_lookup-init-requires
-add_direct_lookup-init-requires c =
-    let w = goal.at.add_direct_lookup-init-requires c in
-    reached-room (after_lam_alef w.After-add_direct_lookup-lam_alef (begins w.After-new)) (omega arith) Single (omega (arith, c.requires)) (omega (arith, c.requires))
-
-pub add_direct_lookup-medi-requires : goal.add_direct_lookup-medi-requires
-add_direct_lookup-medi-requires c =
-    let w = goal.at.add_direct_lookup-medi-requires c in
-    reached-room (after-init w.After-add_direct_lookup-init (after_lam_alef w.After-add_direct_lookup-lam_alef (begins w.After-new))) (omega arith) Single (omega (arith, c.requires)) (omega (arith, c.requires))
-
-pub add_direct_lookup-fina-requires : goal.add_direct_lookup-fina-requires
-add_direct_lookup-fina-requires c =
-    let w = goal.at.add_direct_lookup-fina-requires c in
-    reached-room (after-medi w.After-add_direct_lookup-medi (after-init w.After-add_direct_lookup-init (after_lam_alef w.After-add_direct_lookup-lam_alef (begins w.After-new)))) (omega arith) Single (omega (arith, c.requires)) (omega (arith, c.requires))
-
-pub add_direct_lookup-requires : goal.add_direct_lookup-requires
-add_direct_lookup-requires c =
-    let w = goal.at.add_direct_lookup-requires c in
-    reached-room (after-fina w.After-add_direct_lookup-fina (after-medi w.After-add_direct_lookup-medi (after-init w.After-add_direct_lookup-init (after_lam_alef w.After-add_direct_lookup-lam_alef (begins w.After-new))))) (omega arith) (Ligature 2) (omega (arith, c.requires)) (omega (arith, c.requires))
-
-pub shape_of-scratch : goal.shape_of-scratch
-shape_of-scratch c =
-    let w = goal.at.shape_of-scratch c in
-    (after-shadda w.After-add_direct_lookup (after-fina w.After-add_direct_lookup-fina (after-medi w.After-add_direct_lookup-medi (after-init w.After-add_direct_lookup-init (after_lam_alef w.After-add_direct_lookup-lam_alef (begins w.After-new)))))).sized
 
 pub returns : goal.returns
 returns c =

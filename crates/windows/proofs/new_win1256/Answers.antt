@@ -4,11 +4,6 @@ use mathlib.Core.Path.{sym, ◌∙◌}
 use Rattle.drafts.proofs.DraftLaws.{begun-drafted}
 use Rattle.windows.proofs.new_win1256.Goals as goal
 
-pub returns-then-is_win1256_font : goal.returns-then-is_win1256_font
-returns-then-is_win1256_font c =
-    let e = sym c.is_win1256_font.ensures ∙ c.if-is_win1256_font.true in
-    rw e c.add_tables.ensures
-
 pub returns : goal.returns
 returns c =
     let e = sym c.is_win1256_font.ensures ∙ c.if-is_win1256_font.false in

@@ -1,7 +1,7 @@
 -- `fonts::Font::nominal_glyph` meets its contract.
 -- Assumes nothing.
 use native.Mathlib.Omega.{arith}
-use Rattle.fonts.proofs.FontLaws.{searching_begins, searching_next, searching_inside, searching_middle, searching_finds, searching_ends, searching_nowhere}
+use Rattle.fonts.proofs.FontLaws.{searching_begins, searching_next, searching_finds, searching_ends, searching_nowhere}
 use Rattle.fonts.proofs.Font.nominal_glyph.Goals as goal
 
 pub returns-then-n-eq0 : goal.returns-then-n-eq0
@@ -9,42 +9,13 @@ returns-then-n-eq0 c =
     let a = c.args in
     searching_nowhere a.self.codes.now a.self.glyphs.now a.code.0 c.if-n-eq0.true
 
-pub overflow_sub-tail : goal.overflow_sub-tail
-overflow_sub-tail c = c.span_of-span.ensures.inside (omega (arith, c.if-n-eq0.false))
-
-pub bounds-self-tail : goal.bounds-self-tail
-bounds-self-tail c =
-    omega (arith, c.if-n-eq0.false, c.span_of-span.ensures.reaches)
-
 pub loop-half-init : goal.loop-half-init
 loop-half-init c =
     searching_begins c.args.self.sound c.span_of-span.ensures (omega (arith, c.if-n-eq0.false)) c.later-base.ensures
 
-pub overflow_add-middle : goal.overflow_add-middle
-overflow_add-middle c = omega (arith, searching_middle c.loop-half.invariant c.loop-half-test.true)
-
-pub offset_bounds-self-middle : goal.offset_bounds-self-middle
-offset_bounds-self-middle c = omega (arith, searching_middle c.loop-half.invariant c.loop-half-test.true)
-
-pub bounds-self-middle : goal.bounds-self-middle
-bounds-self-middle c = searching_middle c.loop-half.invariant c.loop-half-test.true
-
-pub loop-half-smaller : goal.loop-half-smaller
-loop-half-smaller c = omega (arith, c.loop-half-test.true)
-
 pub loop-half-preserved : goal.loop-half-preserved
 loop-half-preserved c =
     searching_next c.args.self.sound c.loop-half.invariant c.loop-half-test.true c.later-base-in-loop-half.ensures
-
-pub offset_bounds-self-base : goal.offset_bounds-self-base
-offset_bounds-self-base c = omega (arith, searching_inside c.loop-half.invariant)
-
-pub bounds-self-base : goal.bounds-self-base
-bounds-self-base c = searching_inside c.loop-half.invariant
-
-pub bounds-self-base-then-self-base : goal.bounds-self-base-then-self-base
-bounds-self-base-then-self-base c =
-    omega (arith, searching_inside c.loop-half.invariant, c.args.self.sound.even)
 
 pub returns-then-self-base : goal.returns-then-self-base
 returns-then-self-base c =

@@ -12,12 +12,6 @@ use texts::Told;
 // Lines of a text, at most.
 const LIMIT: usize = 512;
 
-fn shorter(a: usize, b: usize) -> usize
-    ensures { result ≡ min a b }
-{
-    if a < b { a } else { b }
-}
-
 // Joins a line of columns that are of one length, at most 512, and writes what comes of it.
 fn line(
     codes: &[u32],
@@ -49,11 +43,10 @@ fn line(
         actions,
         masks,
     );
-    let k = verdict.number();
-    if k != 0 {
-        return printing::refused(k, out);
+    match verdict {
+        Ok(()) => printing::print(codes, widths, actions, out),
+        Err(refusal) => printing::refused(refusal.number(), out),
     }
-    printing::print(codes, widths, actions, out)
 }
 
 // Joins the first `n` records, if the columns hold so many.
@@ -71,12 +64,11 @@ fn lined(
     requires { (512 ≤ length base.now) × (512 ≤ length actions.old) × (512 ≤ length masks.old) }
     ensures { Wrote out.new result ≡ filled out.old (lines_text n codes.now widths.now types.now categories.now) }
 {
-    let most = shorter(
-        LIMIT,
-        shorter(
-            shorter(codes.len(), widths.len()),
-            shorter(types.len(), categories.len()),
-        ),
+    let most = LIMIT.min(
+        codes
+            .len()
+            .min(widths.len())
+            .min(types.len().min(categories.len())),
     );
     if n <= most {
         return line(

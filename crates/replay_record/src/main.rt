@@ -16,7 +16,7 @@ fn replay(body: &[u8]) -> Outcome {
     let actions = columns::take_u8(body, &mut at, &mut actions_room);
     let answer = recording::record_stch(mask[0], multiplied, components, actions);
     let numbered = cases::same_u8(body, &mut at, &[refusals::number(&answer)]);
-    let told = cases::same_u8(body, &mut at, &[answer.recorded() as u8]);
+    let told = cases::same_u8(body, &mut at, &[answer.unwrap_or(false) as u8]);
     let acted = cases::same_u8(body, &mut at, actions);
     let formed = (given == 1) & (at == body.len());
     tallies::judged(formed, numbered & (told & acted))

@@ -8,17 +8,17 @@ use borrow.Author.Tests.{le-leb, lt-leb}
 use Rattle.answers.specs.Output.{room, lines_text}
 use Rattle.answers.proofs.AnswerLaws.{Holds, room-holds, even-front}
 use Rattle.answers.proofs.lined.Goals as goal
-use Rattle.answers.proofs.lined.Goals.{After-shorter-most, Then-n-most}
+use Rattle.answers.proofs.lined.Goals.{After-min-most, Then-n-most}
 
 -- what was found out of the columns
-roomy : (c : After-shorter-most) → let a = c.args in c.shorter-most.result ≡ room a.codes.now a.widths.now a.types.now a.categories.now
+roomy : (c : After-min-most) → let a = c.args in c.min-most.result ≡ room a.codes.now a.widths.now a.types.now a.categories.now
 roomy c =
-    rw (c.shorter-most.ensures, c.shorter-3.ensures, c.shorter-2.ensures, c.shorter.ensures)
+    rw (c.min-most.ensures, c.min-3.ensures, c.min-2.ensures, c.min.ensures)
 
 few : (c : Then-n-most) → let a = c.args in a.n ≤ room a.codes.now a.widths.now a.types.now a.categories.now
 few c =
     let a = c.args in
-    let r : c.shorter-most.result ≡ room a.codes.now a.widths.now a.types.now a.categories.now = rw (c.shorter-most.ensures, c.shorter-3.ensures, c.shorter-2.ensures, c.shorter.ensures) in
+    let r : c.min-most.result ≡ room a.codes.now a.widths.now a.types.now a.categories.now = rw (c.min-most.ensures, c.min-3.ensures, c.min-2.ensures, c.min.ensures) in
     rw (← r) c.if-n-most.true
 
 holds : (c : Then-n-most) → let a = c.args in Holds a.n a.codes.now a.widths.now a.types.now a.categories.now
@@ -74,4 +74,4 @@ returns-then-n-most c =
 pub returns : goal.returns
 unfolding lines_text
 returns c =
-    rw (← (roomy (goal.at.returns c).After-shorter-most), lt-leb _ _ c.if-n-most.false) c.refused.ensures
+    rw (← (roomy (goal.at.returns c).After-min-most), lt-leb _ _ c.if-n-most.false) c.refused.ensures

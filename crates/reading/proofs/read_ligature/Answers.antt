@@ -49,27 +49,8 @@ roomy e =
 pub u16_at-requires : goal.u16_at-requires
 u16_at-requires c = omega (arith, begins (search))
 
-pub overflow_sub-sets : goal.overflow_sub-sets
-overflow_sub-sets c = omega (arith, c.requires.0.offset, c.from.ensures, c.u16_at.ensures)
-
-pub overflow_mul-count : goal.overflow_mul-count
-overflow_mul-count c = omega (arith, c.u16_at.type_inv)
-
-pub overflow_add-count : goal.overflow_add-count
-overflow_add-count c = omega (arith, c.u16_at.type_inv)
-
 pub overflow_sub-count : goal.overflow_sub-count
 overflow_sub-count c = omega (arith, place (goal.at.overflow_sub-count c).After-from)
-
-pub overflow_mul-count-2 : goal.overflow_mul-count-2
-overflow_mul-count-2 c = omega (arith, c.requires.1.1)
-
-pub overflow_add-count-2 : goal.overflow_add-count-2
-overflow_add-count-2 c = omega (arith, c.requires.1.1)
-
-pub overflow_mul-count-3 : goal.overflow_mul-count-3
-overflow_mul-count-3 c =
-    omega (arith, parts-small (goal.at.overflow_mul-count-3 c).After-from, c.requires.1.1)
 
 pub returns-then-components-count : goal.returns-then-components-count
 returns-then-components-count c =

@@ -31,12 +31,6 @@ returns-then-glyphs-n c =
     let a = c.args in
     single-room a.bytes.now a.glyphs.now a.substitutes.now c.requires _ refl c.if-glyphs-n.true
 
-pub overflow_mul-n : goal.overflow_mul-n
-overflow_mul-n c = omega (arith, place (search))
-
-pub overflow_add-n : goal.overflow_add-n
-overflow_add-n c = omega (arith, place (search))
-
 pub get_words-requires : goal.get_words-requires
 get_words-requires c =
     (omega (arith, place (search)), (roomy (goal.at.get_words-requires c).Else-glyphs-n).0)

@@ -6,7 +6,7 @@ ghost use Rattle.copying.specs.Pasted.{Copyable, PartCopied};
 
 use runs::Line;
 
-// Copies `s` records of a line from `i` on to the places from `o` on. The output's columns are parameters: what a struct of `&mut` slices leaves in them gets no proof. Each column is copied for itself: the compiler then copies many numbers at once.
+// Copies `s` records of a line from `i` on to the places from `o` on. The output's columns stay parameters, since the contract names what each `&mut` leaves. Each column is copied for itself: the compiler then copies many numbers at once.
 pub fn copy_columns(
     i: usize,
     s: usize,

@@ -3,19 +3,32 @@
 
 ghost use Rattle.std.specs.Prelude.{◌≡◌, ◌≤◌};
 ghost use Rattle.refusals.specs.Columns.{line_limit};
-ghost use Rattle.fitting.specs.Saturating.{sat_add_lem, sat_sub_lem};
+ghost use Rattle.fitting.specs.Saturating.{clamped, sat_add_lem, sat_sub_lem};
 ghost use Rattle.fitting.specs.Fit.{count, loose_fit, fit_of};
+
+// The nearest number of 32 bits. By `saturating_add` and `saturating_sub` of the library a line of 8 records with tiles takes 3,332 instructions for 2,548, above its bar of 0.90 of the Rust.
+fn clamp(s: i64) -> i32
+    ensures { result ≡ clamped s }
+{
+    if s > 2147483647 {
+        return 2147483647;
+    }
+    if s < -2147483648 {
+        return -2147483648;
+    }
+    s as i32
+}
 
 pub fn sat_add(a: i32, b: i32) -> i32
     ensures { result ≡ sat_add_lem a b }
 {
-    a.saturating_add(b)
+    clamp((a as i64) + (b as i64))
 }
 
 pub fn sat_sub(a: i32, b: i32) -> i32
     ensures { result ≡ sat_sub_lem a b }
 {
-    a.saturating_sub(b)
+    clamp((a as i64) - (b as i64))
 }
 
 // A number as a count: 0 for one below 0.

@@ -10,6 +10,7 @@ use runs::Line;
 const FEW: usize = 8;
 
 // Copies the `s` records that come from the `k`-th on in the order of the work, to the places from the `at`-th of `m` on.
+#[inline(always)]
 pub fn keep(
     rtl: bool,
     k: usize,

@@ -146,11 +146,15 @@ fn is_tile(action: u8) -> bool
     (action == Action::FIXED.0) | (action == Action::REPEATING.0)
 }
 
-// The category is one of a word's.
+// The category is one of a word's. The whole list is searched, and not to the first that is found: with `contains` a line of 8 records with tiles takes 3,054 instructions for 2,904.
 fn is_word_category(category: u8) -> bool
     ensures { result ≡ member category word_categories }
 {
-    WORD_CATEGORIES.contains(&category)
+    let mut found = false;
+    for listed in &WORD_CATEGORIES {
+        found |= *listed == category;
+    }
+    found
 }
 
 // A record with these numbers belongs to a word.
@@ -181,7 +185,8 @@ fn word_at(rtl: bool, from: usize, line: Line<'_>) -> i32
     sum
 }
 
-// The run that begins at a place, with the word before it.
+// The run that begins at a place, with the word before it. Inlined: else the columns are read through memory, and a line of 8 records with tiles misses its bar.
+#[inline(always)]
 pub fn measured_at(rtl: bool, from: usize, line: Line<'_>) -> Measured
     requires from_in_bounds { from ≤ length line.actions.now }
     requires actions_len_bound { length line.actions.now ≤ line_limit }

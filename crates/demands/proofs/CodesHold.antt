@@ -9,9 +9,8 @@ use lib.Dec.{eqb, leb}
 use lib.ListN.{length, get_or, length-map}
 use borrow.Author.Tests.{ne_eqb}
 use Rattle.laws.specs.Rows.{Given, first}
-use Rattle.refusals.specs.declared.Verdict.{Verdict}
 use Rattle.refusals.specs.Columns.{line_limit, at_most}
-use Rattle.refusals.specs.Numbers.{said}
+use Rattle.refusals.specs.Numbers.{said, Verdict}
 use Rattle.refusals.proofs.PromiseLaws.{kept}
 use Rattle.refusals.proofs.LeftLaws.{left-number}
 use Rattle.refusals.proofs.VerdictLaws.{same-said}

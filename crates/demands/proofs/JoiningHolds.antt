@@ -9,8 +9,7 @@ use borrow.Author.Tests.{ne_eqb}
 use lib.Bits.{bit_or}
 use lib.Dec.{eqb}
 use lib.ListN.{length, get_or, take, drop}
-use Rattle.refusals.specs.declared.Verdict.{Verdict}
-use Rattle.refusals.specs.Numbers.{said}
+use Rattle.refusals.specs.Numbers.{said, Verdict}
 use Rattle.refusals.proofs.LeftLaws.{left-number, left-accepted}
 use Rattle.refusals.proofs.PromiseLaws.{kept}
 use Rattle.refusals.proofs.VerdictLaws.{same-said}

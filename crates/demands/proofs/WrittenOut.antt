@@ -6,8 +6,8 @@ use mathlib.Core.Bool.{Bool}
 use mathlib.Core.List.{List, map}
 use Prim.Native.Nat.{ℕ}
 use lib.IntN.{ℤ}
+use Rattle.refusals.specs.Numbers.{Verdict}
 use Rattle.laws.specs.Lent.{Borrowed, BorrowedMut}
-use Rattle.refusals.specs.declared.Verdict.{Verdict}
 use Rattle.listed.specs.Rows.{type_in}
 use Rattle.listed.specs.Listed.{listed}
 use Rattle.lines.specs.declared.Manner.{Manner}

@@ -4,8 +4,7 @@
 -- Assumes nothing.
 use Rattle.std.specs.Prelude.{◌≡◌, true, false, List, [], ◌∷◌, ℕ, ◌<◌, length, get_or, set}
 use Rattle.std.specs.Int.Bits.{bit_or}
-use Rattle.refusals.specs.declared.Verdict.{Verdict}
-use Rattle.refusals.specs.Numbers.{said}
+use Rattle.refusals.specs.Numbers.{said, Verdict}
 use Rattle.refusals.specs.Promises.{Kept}
 use Rattle.letters.specs.Types.{Alaph, DalathRish, X}
 use Rattle.shapes.specs.Joining.{form}

@@ -5,8 +5,7 @@
 use Rattle.std.specs.Prelude.{◌≡◌, true, cond, List, [], ◌∷◌, ℕ, ◌-◌, ◌<◌, eqb, length, get_or}
 use Rattle.std.specs.Int.Bits.{bit_or}
 use Rattle.laws.specs.Lists.{member}
-use Rattle.refusals.specs.declared.Verdict.{Verdict}
-use Rattle.refusals.specs.Numbers.{said}
+use Rattle.refusals.specs.Numbers.{said, Verdict}
 use Rattle.refusals.specs.Promises.{Kept}
 use Rattle.letters.specs.Types.{Alaph, DalathRish}
 use Rattle.letters.specs.Actions.{isol, fina, fin2, fin3, medi, med2, init}

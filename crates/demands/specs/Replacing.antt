@@ -3,8 +3,7 @@
 -- in plain words, `NamedAlike` by the old line as by the new; `AltersNear`, `GetsFresh`, `ChangesLetter`, `NoOther` what a replacement alters and what not; `EitherOrder` that two may change places.
 -- Assumes nothing.
 use Rattle.std.specs.Prelude.{◌≡◌, Bool, true, List, [], ◌∷◌, ◌↔◌, ℕ, ◌<◌, ◌≤◌, length, get_or, set}
-use Rattle.refusals.specs.declared.Verdict.{Verdict}
-use Rattle.refusals.specs.Numbers.{said}
+use Rattle.refusals.specs.Numbers.{said, Verdict}
 use Rattle.refusals.specs.Promises.{Kept}
 use Rattle.selectors.specs.Selectors.{selector}
 use Rattle.lines.specs.Held.{Setting, Line}

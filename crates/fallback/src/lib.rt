@@ -48,7 +48,7 @@ impl FallbackPlan {
         ensures { let i = inputs_lent masks codes glyphs shaping forms three_components three_ligatures two_components two_ligatures mark_components mark_ligatures in
             Planning i area.old result area.new }
     {
-        let inputs = Inputs::new(
+        let inputs = Inputs::tested(
             masks,
             codes,
             glyphs,
@@ -141,7 +141,7 @@ impl<'a> Inputs<'a> {
     ghost use Rattle.fallback.specs.Lent.{inputs_in};
 
     // Tests the columns; refused by the smallest number of those that apply, whatever the area.
-    fn new(
+    fn tested(
         masks: [u32; 5],
         codes: &'a [u32],
         glyphs: &'a [u32],

@@ -73,7 +73,9 @@ pub fn even_line(
         & ((n == codes.len()) & ((n == base.len()) & ((n == actions.len()) & (n == masks.len()))))
 }
 
-// The refusal of a line, of which it is known whether its columns are even, and its contexts.
+// The refusal of a line, of which it is known whether its columns are even, and its contexts. Always inlined, so that letters are not handed over in
+// memory.
+#[inline(always)]
 pub fn refused(
     line_even: bool,
     letters: LentLetters<'_>,

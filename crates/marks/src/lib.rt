@@ -108,7 +108,8 @@ impl Merged {
     }
 }
 
-// Both passes over a part that begins at `start`.
+// Both passes over a part that begins at `start`. A `for` over the two classes, proved too, took 20 instructions more a call: 115 with 4 marks, where
+// this takes 95 and the Rust 104.
 fn reorder(codes: &mut [u32], classes: &mut [u8], start: usize, low: u8, high: u8) -> Merged
     requires codes_len { length codes.old ≡ length classes.old }
     requires codes_bound { start + length codes.old ≤ line_limit }
@@ -120,7 +121,9 @@ fn reorder(codes: &mut [u32], classes: &mut [u8], start: usize, low: u8, high: u
     let mut merged = Merged::Nothing;
     let mut from = 0;
     let mut i = 0;
-    'passes: for &class in &CLASSES {
+    let mut pass: usize = 0;
+    'passes: while pass < 2 {
+        let class = CLASSES[pass];
         loop {
             if end <= i {
                 break 'passes;
@@ -131,13 +134,16 @@ fn reorder(codes: &mut [u32], classes: &mut [u8], start: usize, low: u8, high: u
             i += 1;
         }
         let j = number_block(codes, classes, i, class, new_class(class, low, high));
-        if i == j {
-            continue;
+        if i != j {
+            blocks::bring(&mut codes[..j], &mut classes[..j], from, i);
+            merged = merged.with(start + from, start + j);
+            from += j - i;
+            i = j;
+            pass += 1;
+        } else {
+            // here again, so that the proof has no two ways to join behind the choice
+            pass += 1;
         }
-        blocks::bring(&mut codes[..j], &mut classes[..j], from, i);
-        merged = merged.with(start + from, start + j);
-        from += j - i;
-        i = j;
     }
     merged
 }

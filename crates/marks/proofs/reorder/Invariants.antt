@@ -11,4 +11,7 @@ abbrev pub decreases-loop-i : goal.decreases-loop-i
 decreases-loop-i l = length l.codes - l.i
 
 abbrev pub invariant-passes : goal.invariant-passes
-invariant-passes l = Walked l.low l.high l.start l.initial.codes l.initial.classes l.codes l.classes l.merged l.from l.i l.class-index
+invariant-passes l = Walked l.low l.high l.start l.initial.codes l.initial.classes l.codes l.classes l.merged l.from l.i l.pass
+
+abbrev pub decreases-passes : goal.decreases-passes
+decreases-passes l = 2 - l.pass

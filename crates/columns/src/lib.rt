@@ -5,9 +5,9 @@
 // of every kind are put together by one loop, and one law over the width stands behind it. A column of signed numbers has their bits.
 #![tactic(auto)]
 
-ghost use Rattle.std.specs.Prelude.{◌≡◌, ℕ, map, ◌+◌, ◌-◌, ◌<◌, length, get_or};
+ghost use Rattle.std.specs.Prelude.{◌≡◌, ℕ, map, ◌+◌, ◌-◌, length, get_or};
 ghost use Rattle.std.specs.Int.{w32};
-ghost use Rattle.std.proofs.Common.{to_z, of_z};
+ghost use Rattle.std.proofs.Common.{of_z};
 ghost use Rattle.columns.specs.Form.{number_at, span_at, Took, column_at};
 
 // Where the elements of a column lie, how many they are, and where the next column starts.

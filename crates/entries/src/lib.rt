@@ -151,7 +151,8 @@ pub fn within(s: State, b: u8) -> State
     typed(s, digit(b))
 }
 
-// What the line says, if it ends here: an entry, or nothing where it is of other form. Where the state is what reading a line from its beginning left, this is what the definition says of that line.
+// What the line says, if it ends here: an entry, or nothing where it is of other form. Where the state is what reading a line from its
+// beginning left, this is what the definition says of that line.
 pub fn said(s: State) -> Option<Entry>
     ensures state { result ≡ said_by s }
     ensures line { (n : ℕ) (l : List ℕ) → s ≡ read_in (start_of n) l → result ≡ line_of (fields l) }

@@ -6,10 +6,7 @@ use tallies::Outcome;
 
 // Whether each code, asked for alone, has the type that the column has.
 fn each_alone(codes: &[u32], types: &[u8]) -> bool {
-    codes
-        .iter()
-        .zip(types)
-        .all(|(code, alone)| listed::joining_type(Code(*code)).0 == *alone)
+    codes.iter().zip(types).all(|(code, alone)| listed::joining_type(Code(*code)).0 == *alone)
 }
 
 // Makes both calls: types of the column as a whole, then code by code. Answers whether these agree.

@@ -1,8 +1,6 @@
 -- `replay_type::replay` is safe and ends: its room has a place for each code that is taken.
 -- Assumes nothing.
 use mathlib.Core.Path.{sym}
-use Prim.Native.Nat.{◌≤◌}
-use lib.ListN.{length}
 use lib.Seq.{length-take-le}
 use Rattle.columns.proofs.FormLaws.{plain, taken_few}
 use Rattle.replay_type.proofs.replay.Goals as goal

@@ -1,5 +1,6 @@
 -- What joining answers of a line decides what is printed of it; and columns that a text was read into give what is printed of the text.
 -- Assumes nothing.
+use Rattle.std.specs.Prelude.{Option, None, Some}
 use Prim.Native.Nat.{ℕ, suc, ◌+◌, ◌≤◌, ◌<◌, min}
 use mathlib.Core.Bool.{Bool, true, false, cond, not, ◌&&◌, false≢true}
 use mathlib.Core.List.{List, [], ◌∷◌, map}
@@ -11,11 +12,7 @@ use lib.ListN.{length, take, drop, length-map}
 use lib.Seq.{sets, sets-eq, take_at, length-take-le, length-sets}
 use borrow.Author.Tests.{eq-eqb, le-leb, lt-leb, leb-true, leb-false}
 use Rattle.entries.specs.declared.Entry.{Entry}
-use Rattle.entries.specs.declared.Line as entry
-use Rattle.entries.specs.declared.Line.TheVariants.{Other, Says}
 use Rattle.entries.specs.Form as form
-use Rattle.texts.specs.declared.Told.{Told}
-use Rattle.texts.specs.declared.Told.TheVariants.{Unreadable, Lines}
 use Rattle.texts.specs.Form.{codes_of, widths_of, kinds_of, categories_of, lines, says, readable, leading, entries, last, told, Closed, Close, whole}
 use Rattle.laws.specs.Rows.{Given, first}
 use Rattle.shapes.specs.Joining.{line_types, actions_of}
@@ -124,10 +121,10 @@ entries-all [] r = refl
 entries-all (l ∷ ls) r = go (form.line_of (form.fields l)) r (entries-all ls)
   where
     go :
-        (x : entry.Line) → (says x && readable ls) ≡ true → (readable ls ≡ true → length (entries ls) ≡ length ls)
+        (x : Option Entry) → (says x && readable ls) ≡ true → (readable ls ≡ true → length (entries ls) ≡ length ls)
         → length (leading x (entries ls)) ≡ suc (length ls)
-    go Other r ih = absurd (false≢true r)
-    go (Says e) r ih = ap suc (ih r)
+    go None r ih = absurd (false≢true r)
+    go (Some e) r ih = ap suc (ih r)
 
 -- The front of a column that values were stored in from its start.
 front-sets : {A : Type 0} (f : A → ℕ) (es : List A) (l : List ℕ) (n : ℕ) → length es ≡ n → n ≤ length l → take n (sets l 0 (map f es)) ≡ map f es
@@ -182,19 +179,19 @@ module _ (text c w t g : List ℕ) (hc : limit ≤ length c) (hw : limit ≤ len
 
       go :
           (r : Bool) → readable (lines text) ≡ r
-          → answer_text (cond r (Lines (min n last)) Unreadable) codes widths types categories ≡ cond r (cond (leb n limit) (entry_text said) (refused_text 2)) unreadable_text
+          → answer_text (cond r (Some (min n last)) None) codes widths types categories ≡ cond r (cond (leb n limit) (entry_text said) (refused_text 2)) unreadable_text
       go true r = lined (leb n limit) refl (entries-all (lines text) r)
       go false r = refl
 
   -- Whatever a text came to in such columns, what is printed of them is what is printed of the text.
   pub read_answer :
-      (x : Told) (c' w' t' g' : List ℕ) → Close x c' w' t' g' ≡ whole text c w t g → answer_text x c' w' t' g' ≡ output text
+      (x : Option ℕ) (c' w' t' g' : List ℕ) → Close x c' w' t' g' ≡ whole text c w t g → answer_text x c' w' t' g' ≡ output text
   unfolding whole
   read_answer x c' w' t' g' e =
       ap closed_text e ∙ text-answer
 
 -- So what is written of the columns is what is written of the text.
 pub answered :
-    (x : Told) (c' w' t' g' out : List ℕ) {y : Written} → y ≡ filled out (answer_text x c' w' t' g')
+    (x : Option ℕ) (c' w' t' g' out : List ℕ) {y : Written} → y ≡ filled out (answer_text x c' w' t' g')
     → (y ≡ filled out (answer_text x c' w' t' g')) × ((text c w t g : List ℕ) → limit ≤ length c → limit ≤ length w → limit ≤ length t → limit ≤ length g → Close x c' w' t' g' ≡ whole text c w t g → y ≡ filled out (output text))
 answered x c' w' t' g' out e = (e, λ text c w t g hc hw ht hg r. e ∙ ap (filled out) (read_answer text c w t g hc hw ht hg x c' w' t' g' r))

@@ -1,5 +1,6 @@
 -- All that is printed of a text fits `longest` bytes, whatever the text: a row has at most 16, there are at most 512 of them, and the heading has 16.
 -- Assumes nothing.
+use Rattle.std.specs.Prelude.{Option, None, Some}
 use Prim.Native.Nat.{ℕ, zero, suc, ◌+◌, ◌*◌, ◌/◌, ◌%◌, ◌≤◌, ◌<◌}
 use mathlib.Core.Bool.{Bool, true, false, cond, ◌&&◌, and-eq-true_iff, false≢true}
 use mathlib.Core.List.{List, [], ◌∷◌, ◌++◌}
@@ -12,8 +13,6 @@ use lib.Seq.{sets}
 use borrow.Author.Tests.{le-leb, leb-true, lt-ltb}
 use Rattle.laws.proofs.TableLaws.{below}
 use Rattle.entries.specs.declared.Entry.{Entry}
-use Rattle.entries.specs.declared.Line.{Line}
-use Rattle.entries.specs.declared.Line.TheVariants.{Other, Says}
 use Rattle.entries.specs.Form.{fields, is_code, is_number, all_digits, value, held, line_of}
 use Rattle.texts.specs.Form.{codes_of, widths_of, kinds_of, categories_of, lines, readable, leading, entries}
 use Rattle.refusals.specs.Columns.{at_most}
@@ -71,9 +70,9 @@ rows_fit place (c ∷ cs) (w ∷ ws) (x ∷ xs) h hw hx =
 
 -- ---- the entries of a text
 -- a code that is read was typed with at most six digits
-abbrev Six : Line → Type 0
-Six Other = Unit
-Six (Says e) = e.width ≤ 6
+abbrev Six : Option Entry → Type 0
+Six None = Unit
+Six (Some e) = e.width ≤ 6
 
 code_six : (c : List ℕ) → is_code c ≡ true → length c ≤ 6
 unfolding is_code
@@ -89,7 +88,7 @@ line_six (c ∷ (t ∷ (g ∷ []))) = go (is_code c && (is_number t && is_number
   where
     go :
         (b : Bool) → (is_code c && (is_number t && is_number g)) ≡ b
-        → Six (cond b (Says (record { code = value 16 c; width = length c; kind = held t; category = held g })) Other)
+        → Six (cond b (Some (record { code = value 16 c; width = length c; kind = held t; category = held g })) None)
     go true e = code_six c ((and-eq-true_iff (is_code c) (is_number t && is_number g)).0 e).0
     go false e = tt
 line_six (c ∷ (t ∷ (g ∷ (x ∷ xs)))) = tt
@@ -99,18 +98,18 @@ widths_six [] = refl
 widths_six (l ∷ ls) = go (line_of (fields l)) (line_six (fields l)) (widths_six ls)
   where
     go :
-        (x : Line) → Six x → at_most 6 (widths_of (entries ls)) ≡ true
+        (x : Option Entry) → Six x → at_most 6 (widths_of (entries ls)) ≡ true
         → at_most 6 (widths_of (leading x (entries ls))) ≡ true
-    go Other h ih = refl
-    go (Says e) h ih = simp (le-leb e.width 6 h) ih
+    go None h ih = refl
+    go (Some e) h ih = simp (le-leb e.width 6 h) ih
 
 entries-few : (ls : List (List ℕ)) → length (entries ls) ≤ length ls
 entries-few [] = omega arith
 entries-few (l ∷ ls) = go (line_of (fields l)) (entries-few ls)
   where
-    go : (x : Line) → length (entries ls) ≤ length ls → length (leading x (entries ls)) ≤ suc (length ls)
-    go Other ih = omega arith
-    go (Says e) ih = omega arith
+    go : (x : Option Entry) → length (entries ls) ≤ length ls → length (leading x (entries ls)) ≤ suc (length ls)
+    go None ih = omega arith
+    go (Some e) ih = omega arith
 
 -- ---- all that is printed
 choice_fits : (b : Bool) (x y : List ℕ) → length x ≤ longest → length y ≤ longest → length (cond b x y) ≤ longest

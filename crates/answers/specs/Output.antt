@@ -9,10 +9,8 @@
 --   lines_text, answer_text   what is printed of columns that a text was read into
 --   Even        columns that can be joined
 -- Assumes nothing.
-use Rattle.std.specs.Prelude.{ℕ, ◌≤◌, min, ◌≡◌, cond, List, [], leb, length, take}
+use Rattle.std.specs.Prelude.{ℕ, ◌≤◌, min, ◌≡◌, cond, List, [], leb, length, take, Option, None, Some}
 use Rattle.entries.specs.declared.Entry.{Entry}
-use Rattle.texts.specs.declared.Told.{Told}
-use Rattle.texts.specs.declared.Told.TheVariants.{Unreadable, Lines}
 use Rattle.texts.specs.Form.{codes_of, widths_of, kinds_of, categories_of, lines, readable, entries}
 use Rattle.shapes.specs.Joining.{line_types, actions_of}
 use Rattle.lines.specs.Held.{letters_of}
@@ -52,9 +50,9 @@ lines_text n codes widths types categories =
     cond (leb n (room codes widths types categories)) (line_text (take n codes) (take n widths) (take n types) (take n categories)) (refused_text 2)
 
 -- What is printed where a text came to this.
-abbrev pub answer_text : Told → List ℕ → List ℕ → List ℕ → List ℕ → List ℕ
-answer_text Unreadable codes widths types categories = unreadable_text
-answer_text (Lines n) codes widths types categories = lines_text n codes widths types categories
+abbrev pub answer_text : Option ℕ → List ℕ → List ℕ → List ℕ → List ℕ → List ℕ
+answer_text None codes widths types categories = unreadable_text
+answer_text (Some n) codes widths types categories = lines_text n codes widths types categories
 
 -- Columns of n records each, and no more than the limit: what joining is lent.
 pub record Even (n : ℕ) (codes categories base actions masks : List ℕ) : Type 0 where

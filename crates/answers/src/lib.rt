@@ -7,7 +7,6 @@ ghost use Rattle.printing.specs.Writing.{Wrote, filled};
 ghost use Rattle.answers.specs.Output.{line_text, output, lines_text, answer_text, Even};
 
 use lines::Manner;
-use texts::Told;
 
 // Lines of a text, at most.
 const LIMIT: usize = 512;
@@ -115,7 +114,7 @@ fn lend(
 // Writes what is printed of a text that came to this, read into these columns, as much of it as fits; answers how much that is. Where they are what
 // reading a text into columns of at least 512 left, this is what the definition says of that text.
 pub fn answer(
-    told: Told,
+    told: Option<usize>,
     codes: &[u32],
     widths: &[u8],
     types: &[u8],
@@ -127,7 +126,7 @@ pub fn answer(
         ((text c w t g : List ℕ) → 512 ≤ length c → 512 ≤ length w → 512 ≤ length t → 512 ≤ length g → lent ≡ whole text c w t g → Wrote out.new result ≡ filled out.old (output text)) }
 {
     match told {
-        Told::Unreadable => printing::unreadable(out),
-        Told::Lines(n) => lend(n, codes, widths, types, categories, out),
+        None => printing::unreadable(out),
+        Some(n) => lend(n, codes, widths, types, categories, out),
     }
 }

@@ -2,7 +2,7 @@
 -- Assumes nothing.
 use Prim.Native.Nat.{ℕ, zero, suc, ◌+◌, ◌-◌, ◌*◌, ◌≤◌, ◌<◌}
 use mathlib.Core.Bool.{Bool, true, false, cond, ◌&&◌, false≢true, and-eq-true_iff}
-use mathlib.Core.List.{List, [], ◌∷◌, ◌++◌, append-nil}
+use mathlib.Core.List.{List, [], ◌∷◌, ◌++◌, map, append-nil}
 use mathlib.Core.Path.{◌≡◌, refl, sym, ap, ◌∙◌}
 use native.Mathlib.Nat.{add-zero, zero-add, add-sub_cancel_left, mul-le-mul, suc-mul}
 use native.Mathlib.Numerals.{add-one}
@@ -11,6 +11,7 @@ use lib.Dec.{leb, eqb}
 use lib.ListN.{length, get_or, set, take, drop}
 use lib.Seq.{drop-cons, take-suc, take-suc-set, append_snoc, take-length, take-append_seam}
 use borrow.Author.Tests.{le-leb, eq-eqb, leb-true, eqb-true}
+use Rattle.std.proofs.lemmas.List.{map-id}
 use Rattle.columns.specs.declared.Span.{Span}
 use Rattle.columns.specs.Form.{number_at, elements, lost, fits, span, span_at, Taken, Took, taken_at, column_at}
 
@@ -170,7 +171,7 @@ pub passed_taken :
 passed_taken f h p = rw (← passed-all h p) f.is
 
 -- One byte is its number.
-byte_is : (bytes : List ℕ) (at : ℕ) → number_at bytes 1 at ≡ get_or bytes at 0
+pub byte_is : (bytes : List ℕ) (at : ℕ) → number_at bytes 1 at ≡ get_or bytes at 0
 unfolding number_at
 byte_is bytes at = rw (add-zero, zero-add)
 
@@ -185,6 +186,10 @@ bytes_are body from n h = rw (add-sub_cancel_left from n) (go n from h)
     go (suc n) from h =
         rw (drop-cons body from 0 (omega arith), byte_is body from, add-one from)
         (ap (λ (l : List ℕ). get_or body from 0 ∷ l) (go n (suc from) (omega arith)))
+
+-- The numbers of an unsigned kind are its elements themselves: what `take` says of them.
+pub plain : {l : List ℕ} {n : ℕ} {t : Taken} → Took (map (λ (x : ℕ). x) l) n ≡ t → Took l n ≡ t
+plain e = rw map-id at e
 
 -- The statement of taking allows one answer and one cursor.
 pub taken_once : {t : Taken} {l m : List ℕ} {n k : ℕ} → Took l n ≡ t → Took m k ≡ t → (l ≡ m) × (n ≡ k)

@@ -1,5 +1,4 @@
 -- The laws that the proofs of `columns` and `cases` share, and the form on bodies that are small enough to read.
 -- Assumes nothing.
 pub mod FormLaws
-pub mod SignedLaws
 pub mod FormExamples

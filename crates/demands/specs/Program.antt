@@ -1,10 +1,9 @@
 -- What program `joinline` does, from the bytes that it reads to those that it prints: `read_all` its input, piece by piece; `Prints` the promise.
 -- Assumes nothing.
-use Rattle.std.specs.Prelude.{◌≡◌, ℕ, ◌≤◌, length}
+use Rattle.std.specs.Prelude.{◌≡◌, ℕ, ◌≤◌, length, Option}
 use mathlib.Core.List.{List, [], ◌∷◌, flatten}
 use Rattle.std.proofs.lemmas.List.Edits.{sets}
 use Rattle.entries.specs.Steps.{start}
-use Rattle.texts.specs.declared.Told.{Told}
 use Rattle.texts.specs.Form.{Close}
 use Rattle.texts.specs.Steps.{Held, Hold, read_on, closed}
 use Rattle.printing.specs.Writing.{Wrote, filled}
@@ -20,7 +19,7 @@ read_all h (piece ∷ pieces) = read_all (read_on h piece) pieces
 abbrev pub Prints : Type 0
 Prints =
     (pieces : List (List ℕ)) (codes widths types categories out : List ℕ) → length codes ≡ limit → length widths ≡ limit → length types ≡ limit
-    → length categories ≡ limit → longest ≤ length out → (told : Told) (codes' widths' types' categories' out' : List ℕ) (r : ℕ)
+    → length categories ≡ limit → longest ≤ length out → (told : Option ℕ) (codes' widths' types' categories' out' : List ℕ) (r : ℕ)
     → Close told codes' widths' types' categories' ≡ closed (read_all (Hold (start 0) codes widths types categories) pieces)
     → Wrote out' r ≡ filled out (answer_text told codes' widths' types' categories')
     → Wrote out' r ≡ Wrote (sets out 0 (output (flatten pieces))) (length (output (flatten pieces)))

@@ -1,5 +1,6 @@
 -- A line, read byte by byte: at its end its entry is held where it has the form, and else the text is of other form.
 -- Assumes nothing.
+use Rattle.std.specs.Prelude.{Option, None, Some}
 use Prim.Native.Nat.{ℕ}
 use mathlib.Core.Bool.{Bool, true, false, cond, ◌&&◌, and-true, false≢true}
 use mathlib.Core.List.{List, [], ◌∷◌}
@@ -8,8 +9,6 @@ use lib.Dec.{leb, eqb}
 use lib.ListN.{length}
 use Rattle.entries.specs.declared.State.{State}
 use Rattle.entries.specs.declared.Entry.{Entry}
-use Rattle.entries.specs.declared.Line.{Line}
-use Rattle.entries.specs.declared.Line.TheVariants.{Other, Says}
 use Rattle.entries.specs.Form.{before, fields, digit, all_digits, value, is_code, bare, is_number, held, line_of}
 use Rattle.entries.specs.Steps.{start, other, typed, parted, within, read_in, said_by}
 use Rattle.entries.proofs.FieldLaws.{run_digits, digits-other, at, field_run}
@@ -97,15 +96,15 @@ type-run f h n =
     ∙ through parted (leb 1 (length h)) (leb (length h) 3 && (all_digits 10 h && bare h)) (at 1 (value 16 f) (length f) 0 n refl (length h) (value 10 h)) (behind_type f h n) other refl refl
 
 -- What a line comes to, where an entry e that stands behind n lines comes to `stored n e`, and a line of other form to `off`.
-abbrev pub outcome : {A : Type 0} → (ℕ → Entry → A) → A → ℕ → Line → A
-outcome stored off n Other = off
-outcome stored off n (Says e) = stored n e
+abbrev pub outcome : {A : Type 0} → (ℕ → Entry → A) → A → ℕ → Option Entry → A
+outcome stored off n None = off
+outcome stored off n (Some e) = stored n e
 
 module _ {A : Type 0} (stored : ℕ → Entry → A) (off : A) (n : ℕ) where
   abbrev pub close : State → A
   close s = outcome stored off s.lines (said_by s)
 
-  outcome-cond : (b : Bool) (m : ℕ) (e : Entry) → outcome stored off m (cond b (Says e) Other) ≡ cond b (stored m e) off
+  outcome-cond : (b : Bool) (m : ℕ) (e : Entry) → outcome stored off m (cond b (Some e) None) ≡ cond b (stored m e) off
   outcome-cond true m e = refl
   outcome-cond false m e = refl
 
@@ -163,11 +162,11 @@ module _ {A : Type 0} (stored : ℕ → Entry → A) (off : A) (n : ℕ) where
       e : Entry
       e = record { code = value 16 f; width = length f; kind = held h; category = held j }
 
-      last : (b : Bool) → close (run_digits (cond b (behind_type f h n) other) j) ≡ outcome stored off n (cond (b && is_number j) (Says e) Other)
+      last : (b : Bool) → close (run_digits (cond b (behind_type f h n) other) j) ≡ outcome stored off n (cond (b && is_number j) (Some e) None)
       last true = category-run f h j ∙ sym (outcome-cond (is_number j) n e)
       last false = ended-other (j ∷ [])
 
-      go : (a : Bool) → close (run_fields (cond a (behind_code f n) other) (h ∷ (j ∷ []))) ≡ outcome stored off n (cond (a && (is_number h && is_number j)) (Says e) Other)
+      go : (a : Bool) → close (run_fields (cond a (behind_code f n) other) (h ∷ (j ∷ []))) ≡ outcome stored off n (cond (a && (is_number h && is_number j)) (Some e) None)
       go true = ap (λ (s : State). close (run_digits s j)) (type-run f h n) ∙ last (is_number h)
       go false = ended-other (h ∷ (j ∷ []))
   line-run (f ∷ (h ∷ (j ∷ (x ∷ xs)))) = ap (λ (s : State). close (run_fields s (h ∷ (j ∷ (x ∷ xs))))) (code-run f n) ∙ go (is_code f)
@@ -186,11 +185,11 @@ module _ {A : Type 0} (stored : ℕ → Entry → A) (off : A) (n : ℕ) where
 
 -- So the line says what the definition says.
 pub line-said : (n : ℕ) (l : List ℕ) → said_by (read_in (start n) l) ≡ line_of (fields l)
-line-said n l = plain (said_by (read_in (start n) l)) (read_in (start n) l).lines ∙ line_read (λ (m : ℕ) (e : Entry). Says e) Other n l ∙ sym (plain (line_of (fields l)) n)
+line-said n l = plain (said_by (read_in (start n) l)) (read_in (start n) l).lines ∙ line_read (λ (m : ℕ) (e : Entry). Some e) None n l ∙ sym (plain (line_of (fields l)) n)
   where
-    plain : (x : Line) (m : ℕ) → x ≡ outcome (λ (m : ℕ) (e : Entry). Says e) Other m x
-    plain Other m = refl
-    plain (Says e) m = refl
+    plain : (x : Option Entry) (m : ℕ) → x ≡ outcome (λ (m : ℕ) (e : Entry). Some e) None m x
+    plain None m = refl
+    plain (Some e) m = refl
 
 -- A text of other form stays so.
 pub state_other : (l : List ℕ) → read_in other l ≡ other
@@ -203,5 +202,5 @@ start-once p q = cc
 pub within-once : (s : State) (b : ℕ) {t k : State} → t ≡ within s b → k ≡ within s b → t ≡ k
 within-once s b p q = cc
 
-pub said-once : (s : State) {x y : Line} → x ≡ said_by s → y ≡ said_by s → x ≡ y
+pub said-once : (s : State) {x y : Option Entry} → x ≡ said_by s → y ≡ said_by s → x ≡ y
 said-once s p q = cc

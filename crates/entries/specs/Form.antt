@@ -7,9 +7,8 @@
 --   held                        a type or category as a byte holds it
 --   line_of                      what a line says
 -- Assumes nothing.
-use Rattle.std.specs.Prelude.{ℕ, ◌+◌, ◌-◌, ◌*◌, min, Bool, true, cond, not, ◌&&◌, List, [], ◌∷◌, leb, ltb, eqb, length}
-use Rattle.entries.specs.declared.Line.{Line}
-use Rattle.entries.specs.declared.Line.TheVariants.{Other, Says}
+use Rattle.std.specs.Prelude.{ℕ, ◌+◌, ◌-◌, ◌*◌, min, Bool, true, cond, not, ◌&&◌, List, [], ◌∷◌, leb, ltb, eqb, length, Option, None, Some}
+use Rattle.entries.specs.declared.Entry.{Entry}
 
 -- A byte put before the first of some parts; where there is no part, it is one by itself.
 abbrev pub before : ℕ → List (List ℕ) → List (List ℕ)
@@ -59,10 +58,10 @@ abbrev pub held : List ℕ → ℕ
 held ds = min (value 10 ds) 255
 
 -- What a line's fields say: three of the forms that document 01 gives, else nothing.
-abbrev pub line_of : List (List ℕ) → Line
-line_of [] = Other
-line_of (c ∷ []) = Other
-line_of (c ∷ (t ∷ [])) = Other
+abbrev pub line_of : List (List ℕ) → Option Entry
+line_of [] = None
+line_of (c ∷ []) = None
+line_of (c ∷ (t ∷ [])) = None
 line_of (c ∷ (t ∷ (g ∷ []))) =
-    cond (is_code c && (is_number t && is_number g)) (Says (record { code = value 16 c; width = length c; kind = held t; category = held g })) Other
-line_of (c ∷ (t ∷ (g ∷ (x ∷ xs)))) = Other
+    cond (is_code c && (is_number t && is_number g)) (Some (record { code = value 16 c; width = length c; kind = held t; category = held g })) None
+line_of (c ∷ (t ∷ (g ∷ (x ∷ xs)))) = None

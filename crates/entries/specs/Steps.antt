@@ -8,10 +8,8 @@
 --   within, read_in          any byte but a line end; several
 --   entry_of, said_by         what was read, at the end of the line
 -- Assumes nothing.
-use Rattle.std.specs.Prelude.{ℕ, ◌+◌, ◌*◌, min, Bool, cond, not, ◌&&◌, List, [], ◌∷◌, leb, ltb, eqb}
+use Rattle.std.specs.Prelude.{ℕ, ◌+◌, ◌*◌, min, Bool, cond, not, ◌&&◌, List, [], ◌∷◌, leb, ltb, eqb, Option, None, Some}
 use Rattle.entries.specs.declared.Entry.{Entry}
-use Rattle.entries.specs.declared.Line.{Line}
-use Rattle.entries.specs.declared.Line.TheVariants.{Other, Says}
 use Rattle.entries.specs.declared.State.{State}
 use Rattle.entries.specs.Form.{digit}
 
@@ -86,5 +84,5 @@ abbrev pub entry_of : State → Entry
 entry_of s = record { code = s.code; width = s.width; kind = s.kind; category = min s.value 255 }
 
 -- What a line says that ends here: an entry, if the category has a digit.
-unfoldable pub said_by : State → Line
-said_by s = cond (eqb s.field 2 && leb 1 s.digits) (Says (entry_of s)) Other
+unfoldable pub said_by : State → Option Entry
+said_by s = cond (eqb s.field 2 && leb 1 s.digits) (Some (entry_of s)) None

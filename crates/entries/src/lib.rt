@@ -8,7 +8,7 @@ ghost use Rattle.entries.specs.Form.{digit as digit_of, fields, line_of};
 ghost use Rattle.entries.specs.Steps.{base as base_of, most as most_of, start as start_of, follows as follows_on, typed as typed_of, parted as parted_of, within as within_of, read_in, said_by};
 
 // What a line says: the code and with how many digits it was typed, the type, the category.
-#[derive(Clone, Copy)]
+#[derive(Clone, Copy, Debug, PartialEq, Eq)]
 pub struct Entry {
     pub code: u32,
     pub width: u8,
@@ -16,15 +16,8 @@ pub struct Entry {
     pub category: u8,
 }
 
-// A line says an entry, or is of other form.
-#[derive(Clone, Copy)]
-pub enum Line {
-    Other,
-    Says(Entry),
-}
-
 // What was read of a text so far.
-#[derive(Clone, Copy)]
+#[derive(Clone, Copy, Debug, PartialEq, Eq)]
 pub struct State {
     // of the line at hand: 0 code, 1 type, 2 category; 3: a line of the text is of other form
     pub field: u8,
@@ -53,16 +46,15 @@ pub const OTHER: State = State {
 const BLANK: u8 = 32;
 
 // The value of a digit, 16 for a byte that is none.
+#[tactic(auto, unfolding(crate::specs::Form::digit))]
 fn digit(b: u8) -> u32
     ensures { result ≡ digit_of b }
 {
-    if (48 <= b) & (b <= 57) {
-        return (b - 48) as u32;
+    match b {
+        b'0'..=b'9' => u32::from(b - b'0'),
+        b'A'..=b'F' => u32::from(b - b'A') + 10,
+        _ => 16,
     }
-    if (65 <= b) & (b <= 70) {
-        return (b - 55) as u32;
-    }
-    16
 }
 
 fn base(field: u8) -> u32
@@ -88,7 +80,7 @@ pub fn start(lines: usize) -> State
         code: 0,
         width: 0,
         kind: 0,
-        lines: lines,
+        lines,
     }
 }
 
@@ -96,10 +88,7 @@ pub fn start(lines: usize) -> State
 fn byte(v: u32) -> u8
     ensures { result ≡ min v 255 }
 {
-    if v < 255 {
-        return v as u8;
-    }
-    255
+    u8::try_from(v).unwrap_or(u8::MAX)
 }
 
 // Whether a digit may follow.
@@ -117,13 +106,9 @@ fn typed(s: State, d: u32) -> State
 {
     if follows(s, d) {
         return State {
-            field: s.field,
             digits: s.digits + 1,
             value: s.value * base(s.field) + d,
-            code: s.code,
-            width: s.width,
-            kind: s.kind,
-            lines: s.lines,
+            ..s
         };
     }
     OTHER
@@ -149,10 +134,8 @@ fn parted(s: State) -> State
             field: 2,
             digits: 0,
             value: 0,
-            code: s.code,
-            width: s.width,
             kind: byte(s.value),
-            lines: s.lines,
+            ..s
         };
     }
     OTHER
@@ -168,18 +151,19 @@ pub fn within(s: State, b: u8) -> State
     typed(s, digit(b))
 }
 
-// What the line says, if it ends here. Where the state is what reading a line from its beginning left, this is what the definition says of that line.
-pub fn said(s: State) -> Line
+// What the line says, if it ends here: an entry, or nothing where it is of other form. Where the state is what reading a line from its
+// beginning left, this is what the definition says of that line.
+pub fn said(s: State) -> Option<Entry>
     ensures state { result ≡ said_by s }
     ensures line { (n : ℕ) (l : List ℕ) → s ≡ read_in (start_of n) l → result ≡ line_of (fields l) }
 {
     if (s.field == 2) & (1 <= s.digits) {
-        return Line::Says(Entry {
+        return Some(Entry {
             code: s.code,
             width: s.width,
             kind: s.kind,
             category: byte(s.value),
         });
     }
-    Line::Other
+    None
 }

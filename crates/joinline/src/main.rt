@@ -15,22 +15,20 @@ const STDOUT_FILENO: i32 = 1;
 fn read(codes: &mut [u32], widths: &mut [u8], types: &mut [u8], categories: &mut [u8]) -> State {
     let mut room = io::buffer();
     let mut s = texts::begin();
-    let mut left: u64 = 18446744073709551615;
-    while 0 < left {
+    for _ in 0..u64::MAX {
         let n = io::read_full(STDIN_FILENO, &mut room);
         if n == 0 {
             return s;
         }
         s = texts::read_on(s, &room[..n], codes, widths, types, categories);
-        left -= 1;
     }
     s
 }
 
 // Prints the first `n` bytes of a text that has so many.
 fn say(text: &[u8], n: usize) {
-    if n <= text.len() {
-        io::write_all(STDOUT_FILENO, &text[..n]);
+    if let Some(printed) = text.get(..n) {
+        io::write_all(STDOUT_FILENO, printed);
     }
 }
 

@@ -1,18 +1,18 @@
 -- Bytes written one after the other.
 -- Assumes nothing.
 use Prim.Native.Nat.{ℕ, zero, suc, ◌+◌, ◌-◌, ◌/◌, ◌%◌, ◌<◌, ◌≤◌, min}
-use mathlib.Core.Bool.{Bool, true, false, ◌&&◌, and-eq-true_iff, false≢true}
+use mathlib.Core.Bool.{Bool, true, false}
 use mathlib.Core.List.{List, [], ◌∷◌, ◌++◌}
 use mathlib.Core.Path.{◌≡◌, refl, sym, ap, ◌∙◌}
 use native.Mathlib.Nat.{add-zero, zero-add, min-eq_left, min-eq_right}
 use native.Mathlib.Numerals.{add-one}
 use native.Mathlib.Omega.{arith}
 use lib.Dec.{ltb}
-use lib.ListN.{length, get_or, set, take, drop, length-set, drop_of_length-le, get_or-eq_default}
+use lib.ListN.{length, get_or, set, drop, length-set, drop_of_length-le}
 use lib.Seq.{sets, set_out}
 use borrow.Author.Tests.{lt-ltb, le-ltb, ltb-true, ltb-false}
 use Rattle.laws.proofs.LoopLaws.{drop-next}
-use Rattle.printing.specs.Printed.{glyph, numeral, places, decimal, names, name_of, name_from_lem, row, rows, heading, printed, refused_word_lem, refused_text}
+use Rattle.printing.specs.Printed.{glyph, numeral, places, decimal, name_of, row, rows, heading, printed, refused_word_lem, refused_text}
 use Rattle.printing.specs.Writing.{Written, Wrote, wrote, writes, filled}
 
 pub writes-append : (x : Written) (a b : List ℕ) → writes x (a ++ b) ≡ writes (writes x a) b
@@ -34,45 +34,6 @@ numeral-last base n (suc w) x y g z e f =
     ap (λ (q : Written). wrote q g) (rw one at e)
     ∙ ap (wrote (writes x (numeral base w (n / base)))) f
     ∙ sym (writes-append x (numeral base w (n / base)) (glyph (n % base) ∷ []))
-
--- ---- the names, one behind the other
-unfoldable pub names_together : List ℕ
-names_together =
-    105 ∷ 115 ∷ 111 ∷ 108 ∷ 102 ∷ 105 ∷ 110 ∷ 97 ∷ 102 ∷ 105 ∷ 110 ∷ 50 ∷ 102 ∷ 105 ∷ 110 ∷ 51 ∷ 109 ∷ 101 ∷ 100 ∷ 105 ∷ 109 ∷ 101 ∷ 100 ∷ 50 ∷ 105 ∷ 110 ∷ 105 ∷ 116 ∷ 110 ∷ 111 ∷ 110 ∷ 101 ∷ 102 ∷ 105 ∷ 120 ∷ 101 ∷ 100 ∷ 114 ∷ 101 ∷ 112 ∷ 101 ∷ 97 ∷ 116 ∷ 105 ∷ 110 ∷ 103 ∷ []
-
--- Where a name lies.
-pub record Lies (action : ℕ) : Type 0 where
-  pub forth : name_from_lem action ≤ name_from_lem (action + 1)
-  pub inside : name_from_lem (action + 1) ≤ 46
-  pub is : take (name_from_lem (action + 1) - name_from_lem action) (drop (name_from_lem action) names_together) ≡ name_of action
-
-end-from : (action : ℕ) → 10 ≤ action → name_from_lem action ≡ 46
-end-from action h = rw (le-ltb action 9 (omega arith), le-ltb action 10 h)
-
-past-lies : (action : ℕ) → 10 ≤ action → Lies action
-unfolding names
-past-lies action h =
-    let here : name_from_lem action ≡ 46 = end-from action h in
-    let next : name_from_lem (action + 1) ≡ 46 = end-from (action + 1) (omega arith) in
-    record {
-      forth = omega arith;
-      inside = omega arith;
-      is = rw (here, next) (sym (get_or-eq_default names [] h));
-    }
-
-pub name_lies : (action : ℕ) → Lies action
-unfolding names_together names
-name_lies zero = record { forth = omega arith; inside = omega arith; is = refl }
-name_lies (suc zero) = record { forth = omega arith; inside = omega arith; is = refl }
-name_lies (suc (suc zero)) = record { forth = omega arith; inside = omega arith; is = refl }
-name_lies (suc (suc (suc zero))) = record { forth = omega arith; inside = omega arith; is = refl }
-name_lies (suc (suc (suc (suc zero)))) = record { forth = omega arith; inside = omega arith; is = refl }
-name_lies (suc (suc (suc (suc (suc zero))))) = record { forth = omega arith; inside = omega arith; is = refl }
-name_lies (suc (suc (suc (suc (suc (suc zero)))))) = record { forth = omega arith; inside = omega arith; is = refl }
-name_lies (suc (suc (suc (suc (suc (suc (suc zero))))))) = record { forth = omega arith; inside = omega arith; is = refl }
-name_lies (suc (suc (suc (suc (suc (suc (suc (suc zero)))))))) = record { forth = omega arith; inside = omega arith; is = refl }
-name_lies (suc (suc (suc (suc (suc (suc (suc (suc (suc zero))))))))) = record { forth = omega arith; inside = omega arith; is = refl }
-name_lies (suc (suc (suc (suc (suc (suc (suc (suc (suc (suc k)))))))))) = past-lies (suc (suc (suc (suc (suc (suc (suc (suc (suc (suc k)))))))))) (omega arith)
 
 -- ---- rows
 -- A row, part by part.
@@ -98,44 +59,28 @@ rows_no_actions place (c ∷ cs) [] = refl
 rows_no_actions place (c ∷ cs) (w ∷ ws) = refl
 
 module _ (codes widths actions : List ℕ) (i : ℕ) where
-  -- Whether every column has the place i, as code tests it.
-  abbrev pub reaches : Bool
-  reaches = ltb i (length codes) && (ltb i (length widths) && ltb i (length actions))
-
   -- The rows that are left.
   abbrev pub rows_left : List ℕ
   rows_left = rows i (drop i codes) (drop i widths) (drop i actions)
 
-  pub record Reached : Type 0 where
-    pub code : i < length codes
-    pub width : i < length widths
-    pub action : i < length actions
-
-  pub reached : reaches ≡ true → Reached
-  reached e =
-      let p = (and-eq-true_iff (ltb i (length codes)) _).0 e in
-      let q = (and-eq-true_iff (ltb i (length widths)) _).0 p.1 in
-      record { code = ltb-true _ _ p.0; width = ltb-true _ _ q.0; action = ltb-true _ _ q.1 }
-
-  -- None is left.
-  pub rows_end : reaches ≡ false → rows_left ≡ []
+  -- None is left, where the shortest column ends.
+  pub rows_end : min (min (length codes) (length widths)) (length actions) ≤ i → rows_left ≡ []
   rows_end = go (ltb i (length codes)) refl (ltb i (length widths)) refl (ltb i (length actions)) refl
     where
       go :
-          (a : Bool) → ltb i (length codes) ≡ a → (b : Bool) → ltb i (length widths) ≡ b → (d : Bool) → ltb i (length actions) ≡ d → (a && (b && d)) ≡ false
-          → rows_left ≡ []
+          (a : Bool) → ltb i (length codes) ≡ a → (b : Bool) → ltb i (length widths) ≡ b → (d : Bool) → ltb i (length actions) ≡ d
+          → min (min (length codes) (length widths)) (length actions) ≤ i → rows_left ≡ []
       go false e b f d g h = rw (drop_of_length-le codes (ltb-false _ _ e))
       go true e false f d g h = rw (drop_of_length-le widths (ltb-false _ _ f)) (rows_no_widths i (drop i codes) (drop i actions))
       go true e true f false g h = rw (drop_of_length-le actions (ltb-false _ _ g)) (rows_no_actions i (drop i codes) (drop i widths))
-      go true e true f true g h = absurd (false≢true (sym h))
+      go true e true f true g h = absurd (omega (arith, ltb-true _ _ e, ltb-true _ _ f, ltb-true _ _ g))
 
 -- A row is written: those that are left make of the memory behind it what they made, with the row, of the memory before it.
 pub rows_next :
-    (codes widths actions : List ℕ) (i : ℕ) (x y : Written) → reaches codes widths actions i ≡ true
+    (codes widths actions : List ℕ) (i : ℕ) (x y : Written) → i < length codes → i < length widths → i < length actions
     → y ≡ writes x (row i (get_or codes i 0) (get_or widths i 0) (get_or actions i 0)) → writes x (rows_left codes widths actions i) ≡ writes y (rows_left codes widths actions (i + 1))
-rows_next codes widths actions i x y t e =
-    let r = reached codes widths actions i t in
-    rw (drop-next codes i 0 r.code, drop-next widths i 0 r.width, drop-next actions i 0 r.action, e)
+rows_next codes widths actions i x y p q r e =
+    rw (drop-next codes i 0 p, drop-next widths i 0 q, drop-next actions i 0 r, e)
     (writes-append x (row i (get_or codes i 0) (get_or widths i 0) (get_or actions i 0)) (rows_left codes widths actions (i + 1)))
 
 -- ---- a whole text from the start of the memory

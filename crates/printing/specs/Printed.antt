@@ -1,12 +1,12 @@
 -- What document 01's program `joinline` prints of a joined line: the heading, and a row for each letter. "Fields: place from 0, code as read, action name."
 --   glyph, numeral    a digit, digits
 --   places, decimal   how many digits a place has; the place in decimal
---   names, name_of, name_from_lem   the names of the actions
+--   names, name_of    the names of the actions
 --   row, rows         a letter's row, and those of a line
 --   heading, printed  the first row, and all of them
 --   unreadable_text, refused_word_lem, refused_text   what is printed where there is no joined line
 -- Assumes nothing.
-use Rattle.std.specs.Prelude.{ℕ, zero, suc, ◌+◌, ◌*◌, ◌/◌, ◌%◌, cond, List, [], ◌∷◌, ◌++◌, ltb, get_or}
+use Rattle.std.specs.Prelude.{ℕ, zero, suc, ◌+◌, ◌/◌, ◌%◌, cond, List, [], ◌∷◌, ◌++◌, ltb, get_or}
 
 -- The byte of a digit below 16: `0` to `9`, then `A` to `F`.
 abbrev pub glyph : ℕ → ℕ
@@ -41,10 +41,6 @@ names =
 -- The name of an action; none for a number that is no action's.
 abbrev pub name_of : ℕ → List ℕ
 name_of action = get_or names action []
-
--- Where a name begins if the names stand one behind the other; past the last one their end.
-abbrev pub name_from_lem : ℕ → ℕ
-name_from_lem action = cond (ltb action 9) (action * 4) (cond (ltb action 10) 37 46)
 
 -- A letter's row: its place, the code with as many digits as it was typed with, the name of its action; blanks (32) between, a line end (10) behind.
 unfoldable pub row : ℕ → ℕ → ℕ → ℕ → List ℕ

@@ -4,19 +4,12 @@
 #![tactic(auto)]
 
 ghost use Rattle.std.specs.Prelude.{◌≡◌, ◌<◌, ◌≤◌};
-ghost use Rattle.printing.specs.Printed.{glyph as glyph_of, numeral as numeral_of, places as places_of, name_of, name_from_lem, row as row_of, rows as rows_of, heading as heading_of, printed, unreadable_text, refused_word_lem, refused_text};
+ghost use Rattle.printing.specs.Printed.{glyph as glyph_of, numeral as numeral_of, places as places_of, name_of, row as row_of, rows as rows_of, heading as heading_of, printed, unreadable_text, refused_word_lem, refused_text};
 ghost use Rattle.printing.specs.Writing.{Wrote, wrote, writes, filled};
 
 const BLANK: u8 = 32;
 
 const LINE_END: u8 = 10;
-
-// The names of the actions, one behind the other: eight of four letters, one of five, one of nine.
-const NAMES: [u8; 46] = [
-    105, 115, 111, 108, 102, 105, 110, 97, 102, 105, 110, 50, 102, 105, 110, 51, 109, 101, 100,
-    105, 109, 101, 100, 50, 105, 110, 105, 116, 110, 111, 110, 101, 102, 105, 120, 101, 100, 114,
-    101, 112, 101, 97, 116, 105, 110, 103,
-];
 
 // Writes a byte, if it fits; answers the place behind it.
 fn put(out: &mut [u8], at: usize, b: u8) -> usize
@@ -34,10 +27,8 @@ fn put_all(out: &mut [u8], at: usize, bytes: &[u8]) -> usize
     ensures { Wrote out.new result ≡ writes (Wrote out.old at) bytes.now }
 {
     let mut k = at;
-    let mut i = 0;
-    while i < bytes.len() {
-        k = put(out, k, bytes[i]);
-        i += 1;
+    for b in bytes {
+        k = put(out, k, *b);
     }
     k
 }
@@ -62,40 +53,37 @@ fn numeral(out: &mut [u8], at: usize, n: usize, base: usize, w: u8) -> usize
 }
 
 // How many digits a place has.
+#[tactic(auto, unfolding(crate::specs::Printed::places))]
 fn places(n: usize) -> u8
     ensures { result ≡ places_of n }
 {
-    if n < 10 {
-        return 1;
+    match n {
+        0..=9 => 1,
+        10..=99 => 2,
+        100..=999 => 3,
+        1000..=9999 => 4,
+        _ => 5,
     }
-    if n < 100 {
-        return 2;
-    }
-    if n < 1000 {
-        return 3;
-    }
-    if n < 10000 { 4 } else { 5 }
 }
 
-// Where the name of an action begins among the names.
-fn name_from(action: usize) -> usize
-    ensures { result ≡ name_from_lem action }
+// The name of an action; none for a number that is no action's.
+#[tactic(auto, unfolding(crate::specs::Printed::names))]
+fn name(action: u8) -> &'static [u8]
+    ensures { result.now ≡ name_of action }
 {
-    if action < 9 {
-        return action * 4;
+    match action {
+        0 => b"isol",
+        1 => b"fina",
+        2 => b"fin2",
+        3 => b"fin3",
+        4 => b"medi",
+        5 => b"med2",
+        6 => b"init",
+        7 => b"none",
+        8 => b"fixed",
+        9 => b"repeating",
+        _ => b"",
     }
-    if action < 10 { 37 } else { 46 }
-}
-
-// Writes the name of an action.
-fn name(out: &mut [u8], at: usize, action: u8) -> usize
-    ensures { Wrote out.new result ≡ writes (Wrote out.old at) (name_of action) }
-{
-    let a = action as usize;
-    let from = name_from(a);
-    let to = name_from(a + 1);
-    let names = NAMES;
-    put_all(out, at, &names[from..to])
 }
 
 // Writes a letter's row.
@@ -106,7 +94,7 @@ fn row(out: &mut [u8], at: usize, place: usize, code: u32, width: u8, action: u8
     let b = put(out, a, BLANK);
     let c = numeral(out, b, code as usize, 16, width);
     let d = put(out, c, BLANK);
-    let e = name(out, d, action);
+    let e = put_all(out, d, name(action));
     put(out, e, LINE_END)
 }
 
@@ -115,10 +103,8 @@ fn rows(out: &mut [u8], at: usize, codes: &[u32], widths: &[u8], actions: &[u8])
     ensures { Wrote out.new result ≡ writes (Wrote out.old at) (rows_of 0 codes.now widths.now actions.now) }
 {
     let mut k = at;
-    let mut i = 0;
-    while (i < codes.len()) & ((i < widths.len()) & (i < actions.len())) {
+    for i in 0..codes.len().min(widths.len()).min(actions.len()) {
         k = row(out, k, i, codes[i], widths[i], actions[i]);
-        i += 1;
     }
     k
 }
@@ -156,7 +142,7 @@ fn refused_word(out: &mut [u8]) -> usize
 pub fn refused(number: u8, out: &mut [u8]) -> usize
     ensures { Wrote out.new result ≡ filled out.old (refused_text number) }
 {
-    let n = number as usize;
+    let n = usize::from(number);
     let a = refused_word(out);
     let b = numeral(out, a, n, 10, places(n));
     put(out, b, LINE_END)

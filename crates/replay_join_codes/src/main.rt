@@ -3,7 +3,6 @@
 #![tactic(auto)]
 
 use lines::Manner;
-use replays::Case;
 use tallies::Outcome;
 
 // Makes the call of a case and compares. Its rooms are its own, as in `replay_join`.
@@ -17,16 +16,16 @@ fn replay(body: &[u8]) -> Outcome {
     let mut actions_room = [0u8; 4200];
     let mut masks_room = [0u32; 4200];
     let mongolian = columns::view_u8(body, &mut at, 1);
-    let given = columns::take_u32(body, &mut at, &mut features).len();
-    let pre_codes = columns::take_u32(body, &mut at, &mut pre_room);
+    let given = columns::take(body, &mut at, &mut features).len();
+    let pre_codes = columns::take(body, &mut at, &mut pre_room);
     let pre_categories = columns::view_u8(body, &mut at, 80);
-    let post_codes = columns::take_u32(body, &mut at, &mut post_room);
+    let post_codes = columns::take(body, &mut at, &mut post_room);
     let post_categories = columns::view_u8(body, &mut at, 80);
-    let codes = columns::take_u32(body, &mut at, &mut codes_room);
+    let codes = columns::take(body, &mut at, &mut codes_room);
     let categories = columns::view_u8(body, &mut at, 4200);
-    let base = columns::take_u32(body, &mut at, &mut base_room);
-    let actions = columns::take_u8(body, &mut at, &mut actions_room);
-    let masks = columns::take_u32(body, &mut at, &mut masks_room);
+    let base = columns::take(body, &mut at, &mut base_room);
+    let actions = columns::take(body, &mut at, &mut actions_room);
+    let masks = columns::take(body, &mut at, &mut masks_room);
     let verdict = coded::join_codes(
         codes,
         categories,
@@ -37,34 +36,20 @@ fn replay(body: &[u8]) -> Outcome {
         base,
         Manner {
             features,
-            mongolian: cases::first_u8(mongolian) == 1,
+            mongolian: cases::first(mongolian, 0) == 1,
         },
         actions,
         masks,
     );
-    let number = cases::same_u8(body, &mut at, &[refusals::number(&verdict)]);
-    let acted = cases::same_u8(body, &mut at, actions);
-    let masked = cases::same_u32(body, &mut at, masks);
+    let number = cases::same(body, &mut at, &[refusals::number(&verdict)]);
+    let acted = cases::same(body, &mut at, actions);
+    let masked = cases::same(body, &mut at, masks);
     let formed = cases::is_flag(mongolian) & ((given == 7) & (at == body.len()));
     tallies::judged(formed, number & (acted & masked))
 }
 
-// Reads a case and replays it. A line of 4,200 records before and after the call, and contexts of 80, fit with their heads.
-fn turn() -> Outcome {
-    let mut body = [0u8; 98304];
-    let c = replays::next(&mut body);
-    let Case::Body(n) = c else {
-        return replays::stopped(c);
-    };
-    replay(replays::front(&body, n))
-}
-
+// A line of 4,200 records before and after the call, and contexts of 80, fit with their heads.
 fn main() {
-    let mut tally = tallies::begin();
-    let mut what = turn();
-    while tallies::goes_on(tally, what) {
-        tally = replays::tell(tally, what);
-        what = turn();
-    }
-    replays::finish(b"replay_join_codes", tally, what);
+    let mut room = [0u8; 98304];
+    replays::run(b"replay_join_codes", &mut room, replay);
 }

@@ -2,7 +2,6 @@
 // other, ligatures u16; area u8 before the call. Come out: number u8; length u32; area.
 #![tactic(auto)]
 
-use replays::Case;
 use tallies::Outcome;
 
 // Makes the call of a case and compares. Its rooms are its own, as in `replay_join`.
@@ -13,42 +12,26 @@ fn replay(body: &[u8]) -> Outcome {
     let mut ligatures_room = [0u16; 16500];
     let mut area_room = [0u8; 132000];
     let n = columns::view_u8(body, &mut at, 1);
-    let given = columns::take_u16(body, &mut at, &mut flags).len();
-    let components = columns::take_u16(body, &mut at, &mut components_room);
-    let ligatures = columns::take_u16(body, &mut at, &mut ligatures_room);
-    let area = columns::take_u8(body, &mut at, &mut area_room);
+    let given = columns::take(body, &mut at, &mut flags).len();
+    let components = columns::take(body, &mut at, &mut components_room);
+    let ligatures = columns::take(body, &mut at, &mut ligatures_room);
+    let area = columns::take(body, &mut at, &mut area_room);
     let answer = ligatures::serialize_ligature_lookup(
-        cases::first_u8(n),
+        cases::first(n, 0),
         components,
         ligatures,
         flags[0],
         area,
     );
-    let numbered = cases::same_u8(body, &mut at, &[refusals::number(&answer)]);
-    let counted = cases::same_u32(body, &mut at, &[cases::narrow(layouts::length(answer))]);
-    let written = cases::same_u8(body, &mut at, area);
+    let numbered = cases::same(body, &mut at, &[refusals::number(&answer)]);
+    let counted = cases::same(body, &mut at, &[cases::narrow(layouts::length(answer))]);
+    let written = cases::same(body, &mut at, area);
     let formed = (n.len() == 1) & ((given == 1) & (at == body.len()));
     tallies::judged(formed, numbered & (counted & written))
 }
 
-// Reads a case into the room lent, and replays it.
-fn turn(body: &mut [u8; 380928]) -> Outcome {
-    let c = replays::next(body);
-    let Case::Body(n) = c else {
-        return replays::stopped(c);
-    };
-    replay(replays::front(body, n))
-}
-
-// The room of a case is lent to all of them, as in `replay_stretch`. Columns of 40,000 components and 16,500 ligatures, and an area of
-// 132,000 bytes before and after the call, fit with their heads.
+// Columns of 40,000 components and 16,500 ligatures, and an area of 132,000 bytes before and after the call, fit with their heads.
 fn main() {
-    let mut body = [0u8; 380928];
-    let mut tally = tallies::begin();
-    let mut what = turn(&mut body);
-    while tallies::goes_on(tally, what) {
-        tally = replays::tell(tally, what);
-        what = turn(&mut body);
-    }
-    replays::finish(b"replay_ligature", tally, what);
+    let mut room = [0u8; 380928];
+    replays::run(b"replay_ligature", &mut room, replay);
 }

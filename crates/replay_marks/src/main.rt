@@ -3,15 +3,14 @@
 #![tactic(auto)]
 
 use marks::Merged;
-use replays::Case;
 use tallies::Outcome;
 
 // The column at the cursor has these ranges. (A place past all of 32 bits becomes the last, where no part ends.)
 fn same_merged(body: &[u8], at: &mut usize, merged: Merged) -> bool {
     match merged {
-        Merged::Nothing => cases::same_u32(body, at, &[]),
-        Merged::One(a) => cases::same_u32(body, at, &[cases::narrow(a.from), cases::narrow(a.to)]),
-        Merged::Two(a, b) => cases::same_u32(
+        Merged::Nothing => cases::same::<u32>(body, at, &[]),
+        Merged::One(a) => cases::same(body, at, &[cases::narrow(a.from), cases::narrow(a.to)]),
+        Merged::Two(a, b) => cases::same(
             body,
             at,
             &[
@@ -32,43 +31,29 @@ fn replay(body: &[u8]) -> Outcome {
     let mut start_room = [0u32; 1];
     let mut end_room = [0u32; 1];
     let mut lent = [0u8; 2];
-    let codes = columns::take_u32(body, &mut at, &mut codes_room);
-    let classes = columns::take_u8(body, &mut at, &mut classes_room);
-    let starts = columns::take_u32(body, &mut at, &mut start_room).len();
-    let ends = columns::take_u32(body, &mut at, &mut end_room).len();
-    let given = columns::take_u8(body, &mut at, &mut lent).len();
+    let codes = columns::take(body, &mut at, &mut codes_room);
+    let classes = columns::take(body, &mut at, &mut classes_room);
+    let starts = columns::take(body, &mut at, &mut start_room).len();
+    let ends = columns::take(body, &mut at, &mut end_room).len();
+    let given = columns::take(body, &mut at, &mut lent).len();
     let answer = marks::reorder_modifier_combining_marks(
         codes,
         classes,
-        columns::wide(start_room[0]),
-        columns::wide(end_room[0]),
+        start_room[0] as usize,
+        end_room[0] as usize,
         lent[0],
         lent[1],
     );
-    let numbered = cases::same_u8(body, &mut at, &[refusals::number(&answer)]);
+    let numbered = cases::same(body, &mut at, &[refusals::number(&answer)]);
     let merged = same_merged(body, &mut at, answer.unwrap_or(Merged::Nothing));
-    let coded = cases::same_u32(body, &mut at, codes);
-    let classed = cases::same_u8(body, &mut at, classes);
+    let coded = cases::same(body, &mut at, codes);
+    let classed = cases::same(body, &mut at, classes);
     let formed = (starts == 1) & ((ends == 1) & ((given == 2) & (at == body.len())));
     tallies::judged(formed, numbered & (merged & (coded & classed)))
 }
 
-// Reads a case and replays it. A line of 4,200 records before and after the call fits with its heads.
-fn turn() -> Outcome {
-    let mut body = [0u8; 49152];
-    let c = replays::next(&mut body);
-    let Case::Body(n) = c else {
-        return replays::stopped(c);
-    };
-    replay(replays::front(&body, n))
-}
-
+// A line of 4,200 records before and after the call fits with its heads.
 fn main() {
-    let mut tally = tallies::begin();
-    let mut what = turn();
-    while tallies::goes_on(tally, what) {
-        tally = replays::tell(tally, what);
-        what = turn();
-    }
-    replays::finish(b"replay_marks", tally, what);
+    let mut room = [0u8; 49152];
+    replays::run(b"replay_marks", &mut room, replay);
 }

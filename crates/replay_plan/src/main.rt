@@ -4,13 +4,7 @@
 #![tactic(auto)]
 
 use fallback::FallbackPlan;
-use replays::Case;
 use tallies::Outcome;
-
-// A count of lookups as a case has it, in a byte: what is past them all becomes the last, which no plan has.
-fn small(n: usize) -> u8 {
-    if n < 255 { n as u8 } else { 255 }
-}
 
 // Makes the call of a case and compares. Its rooms are its own, as in `replay_join`.
 fn replay(body: &[u8]) -> Outcome {
@@ -27,18 +21,18 @@ fn replay(body: &[u8]) -> Outcome {
     let mut mark_components_room = [0u16; 2080];
     let mut mark_ligatures_room = [0u16; 1040];
     let mut area_room = [0u8; 132000];
-    let given = columns::take_u32(body, &mut at, &mut masks).len();
-    let codes = columns::take_u32(body, &mut at, &mut codes_room);
-    let glyphs = columns::take_u32(body, &mut at, &mut glyphs_room);
-    let shaping = columns::take_u16(body, &mut at, &mut shaping_room);
-    let forms = columns::take_u16(body, &mut at, &mut forms_room);
-    let three_components = columns::take_u16(body, &mut at, &mut three_components_room);
-    let three_ligatures = columns::take_u16(body, &mut at, &mut three_ligatures_room);
-    let two_components = columns::take_u16(body, &mut at, &mut two_components_room);
-    let two_ligatures = columns::take_u16(body, &mut at, &mut two_ligatures_room);
-    let mark_components = columns::take_u16(body, &mut at, &mut mark_components_room);
-    let mark_ligatures = columns::take_u16(body, &mut at, &mut mark_ligatures_room);
-    let area = columns::take_u8(body, &mut at, &mut area_room);
+    let given = columns::take(body, &mut at, &mut masks).len();
+    let codes = columns::take(body, &mut at, &mut codes_room);
+    let glyphs = columns::take(body, &mut at, &mut glyphs_room);
+    let shaping = columns::take(body, &mut at, &mut shaping_room);
+    let forms = columns::take(body, &mut at, &mut forms_room);
+    let three_components = columns::take(body, &mut at, &mut three_components_room);
+    let three_ligatures = columns::take(body, &mut at, &mut three_ligatures_room);
+    let two_components = columns::take(body, &mut at, &mut two_components_room);
+    let two_ligatures = columns::take(body, &mut at, &mut two_ligatures_room);
+    let mark_components = columns::take(body, &mut at, &mut mark_components_room);
+    let mark_ligatures = columns::take(body, &mut at, &mut mark_ligatures_room);
+    let area = columns::take(body, &mut at, &mut area_room);
     let answer = FallbackPlan::new(
         masks,
         codes,
@@ -53,40 +47,26 @@ fn replay(body: &[u8]) -> Outcome {
         mark_ligatures,
         area,
     );
-    let numbered = cases::same_u8(body, &mut at, &[refusals::number(&answer)]);
+    let numbered = cases::same(body, &mut at, &[refusals::number(&answer)]);
     // A refusal says zeros.
     let plan = answer.unwrap_or(FallbackPlan {
         count: 0,
         masks: [0; 7],
         lengths: [0; 7],
     });
-    let counted = cases::same_u8(body, &mut at, &[small(plan.count)]);
-    let masked = cases::same_u32(body, &mut at, &plan.masks);
-    let measured = cases::same_u32(body, &mut at, &plan.lengths);
-    let written = cases::same_u8(body, &mut at, area);
+    // The count is in a byte: what is past them all becomes the last, which no plan has.
+    let count = u8::try_from(plan.count).unwrap_or(u8::MAX);
+    let counted = cases::same(body, &mut at, &[count]);
+    let masked = cases::same(body, &mut at, &plan.masks);
+    let measured = cases::same(body, &mut at, &plan.lengths);
+    let written = cases::same(body, &mut at, area);
     let formed = (given == 5) & (at == body.len());
     let told = numbered & (counted & (masked & measured));
     tallies::judged(formed, told & written)
 }
 
-// Reads a case into the room lent, and replays it.
-fn turn(body: &mut [u8; 335872]) -> Outcome {
-    let c = replays::next(body);
-    let Case::Body(n) = c else {
-        return replays::stopped(c);
-    };
-    replay(replays::front(body, n))
-}
-
-// The room of a case is lent to all of them, as in `replay_stretch`. A map of 4,096 codes, rule lists of 1,040 rows, and an area of 132,000 bytes
-// before and after the call, fit with their heads.
+// A map of 4,096 codes, rule lists of 1,040 rows, and an area of 132,000 bytes before and after the call, fit with their heads.
 fn main() {
-    let mut body = [0u8; 335872];
-    let mut tally = tallies::begin();
-    let mut what = turn(&mut body);
-    while tallies::goes_on(tally, what) {
-        tally = replays::tell(tally, what);
-        what = turn(&mut body);
-    }
-    replays::finish(b"replay_plan", tally, what);
+    let mut room = [0u8; 335872];
+    replays::run(b"replay_plan", &mut room, replay);
 }

@@ -2,7 +2,6 @@
 // recorded u8; actions.
 #![tactic(auto)]
 
-use replays::Case;
 use tallies::Outcome;
 
 // Makes the call of a case and compares. Its rooms are its own, as in `replay_join`.
@@ -10,34 +9,20 @@ fn replay(body: &[u8]) -> Outcome {
     let mut at: usize = 0;
     let mut mask = [0u32; 1];
     let mut actions_room = [0u8; 4200];
-    let given = columns::take_u32(body, &mut at, &mut mask).len();
+    let given = columns::take(body, &mut at, &mut mask).len();
     let multiplied = columns::view_u8(body, &mut at, 4200);
     let components = columns::view_u8(body, &mut at, 4200);
-    let actions = columns::take_u8(body, &mut at, &mut actions_room);
+    let actions = columns::take(body, &mut at, &mut actions_room);
     let answer = recording::record_stch(mask[0], multiplied, components, actions);
-    let numbered = cases::same_u8(body, &mut at, &[refusals::number(&answer)]);
-    let told = cases::same_u8(body, &mut at, &[answer.unwrap_or(false) as u8]);
-    let acted = cases::same_u8(body, &mut at, actions);
+    let numbered = cases::same(body, &mut at, &[refusals::number(&answer)]);
+    let told = cases::same(body, &mut at, &[answer.unwrap_or(false) as u8]);
+    let acted = cases::same(body, &mut at, actions);
     let formed = (given == 1) & (at == body.len());
     tallies::judged(formed, numbered & (told & acted))
 }
 
-// Reads a case and replays it. A line of 4,200 records before and after the call fits with its heads.
-fn turn() -> Outcome {
-    let mut body = [0u8; 20480];
-    let c = replays::next(&mut body);
-    let Case::Body(n) = c else {
-        return replays::stopped(c);
-    };
-    replay(replays::front(&body, n))
-}
-
+// A line of 4,200 records before and after the call fits with its heads.
 fn main() {
-    let mut tally = tallies::begin();
-    let mut what = turn();
-    while tallies::goes_on(tally, what) {
-        tally = replays::tell(tally, what);
-        what = turn();
-    }
-    replays::finish(b"replay_record", tally, what);
+    let mut room = [0u8; 20480];
+    replays::run(b"replay_record", &mut room, replay);
 }

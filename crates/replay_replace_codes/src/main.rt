@@ -6,7 +6,6 @@
 use coded::CodeRequest;
 use letters::{Category, Code};
 use lines::Manner;
-use replays::Case;
 use tallies::Outcome;
 
 // Makes the call of a case and compares. Its rooms are its own, as in `replay_join`.
@@ -23,18 +22,18 @@ fn replay(body: &[u8]) -> Outcome {
     let mut place_room = [0u32; 1];
     let mut code_room = [0u32; 1];
     let mongolian = columns::view_u8(body, &mut at, 1);
-    let given = columns::take_u32(body, &mut at, &mut features).len();
-    let pre_codes = columns::take_u32(body, &mut at, &mut pre_room);
+    let given = columns::take(body, &mut at, &mut features).len();
+    let pre_codes = columns::take(body, &mut at, &mut pre_room);
     let pre_categories = columns::view_u8(body, &mut at, 80);
-    let post_codes = columns::take_u32(body, &mut at, &mut post_room);
+    let post_codes = columns::take(body, &mut at, &mut post_room);
     let post_categories = columns::view_u8(body, &mut at, 80);
-    let codes = columns::take_u32(body, &mut at, &mut codes_room);
-    let categories = columns::take_u8(body, &mut at, &mut categories_room);
-    let base = columns::take_u32(body, &mut at, &mut base_room);
-    let actions = columns::take_u8(body, &mut at, &mut actions_room);
-    let masks = columns::take_u32(body, &mut at, &mut masks_room);
-    let places = columns::take_u32(body, &mut at, &mut place_room).len();
-    let new_codes = columns::take_u32(body, &mut at, &mut code_room).len();
+    let codes = columns::take(body, &mut at, &mut codes_room);
+    let categories = columns::take(body, &mut at, &mut categories_room);
+    let base = columns::take(body, &mut at, &mut base_room);
+    let actions = columns::take(body, &mut at, &mut actions_room);
+    let masks = columns::take(body, &mut at, &mut masks_room);
+    let places = columns::take(body, &mut at, &mut place_room).len();
+    let new_codes = columns::take(body, &mut at, &mut code_room).len();
     let category = columns::view_u8(body, &mut at, 1);
     let verdict = coded::replace_code(
         codes,
@@ -46,42 +45,28 @@ fn replay(body: &[u8]) -> Outcome {
         base,
         Manner {
             features,
-            mongolian: cases::first_u8(mongolian) == 1,
+            mongolian: cases::first(mongolian, 0) == 1,
         },
         actions,
         masks,
         CodeRequest {
-            place: columns::wide(place_room[0]),
+            place: place_room[0] as usize,
             code: Code(code_room[0]),
-            category: Category(cases::first_u8(category)),
+            category: Category(cases::first(category, 0)),
         },
     );
-    let number = cases::same_u8(body, &mut at, &[refusals::number(&verdict)]);
-    let coded = cases::same_u32(body, &mut at, codes);
-    let sorted = cases::same_u8(body, &mut at, categories);
-    let acted = cases::same_u8(body, &mut at, actions);
-    let masked = cases::same_u32(body, &mut at, masks);
+    let number = cases::same(body, &mut at, &[refusals::number(&verdict)]);
+    let coded = cases::same(body, &mut at, codes);
+    let sorted = cases::same(body, &mut at, categories);
+    let acted = cases::same(body, &mut at, actions);
+    let masked = cases::same(body, &mut at, masks);
     let singles = (places == 1) & ((new_codes == 1) & (category.len() == 1));
     let formed = cases::is_flag(mongolian) & ((given == 7) & (singles & (at == body.len())));
     tallies::judged(formed, number & (coded & (sorted & (acted & masked))))
 }
 
-// Reads a case and replays it. A line of 4,200 records before and after the call, and contexts of 80, fit with their heads.
-fn turn() -> Outcome {
-    let mut body = [0u8; 114688];
-    let c = replays::next(&mut body);
-    let Case::Body(n) = c else {
-        return replays::stopped(c);
-    };
-    replay(replays::front(&body, n))
-}
-
+// A line of 4,200 records before and after the call, and contexts of 80, fit with their heads.
 fn main() {
-    let mut tally = tallies::begin();
-    let mut what = turn();
-    while tallies::goes_on(tally, what) {
-        tally = replays::tell(tally, what);
-        what = turn();
-    }
-    replays::finish(b"replay_replace_codes", tally, what);
+    let mut room = [0u8; 114688];
+    replays::run(b"replay_replace_codes", &mut room, replay);
 }

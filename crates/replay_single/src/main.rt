@@ -2,7 +2,6 @@
 // length u32; area.
 #![tactic(auto)]
 
-use replays::Case;
 use tallies::Outcome;
 
 // Makes the call of a case and compares. Its rooms are its own, as in `replay_join`.
@@ -12,36 +11,20 @@ fn replay(body: &[u8]) -> Outcome {
     let mut glyphs_room = [0u16; 33000];
     let mut substitutes_room = [0u16; 33000];
     let mut area_room = [0u8; 132000];
-    let given = columns::take_u16(body, &mut at, &mut flags).len();
-    let glyphs = columns::take_u16(body, &mut at, &mut glyphs_room);
-    let substitutes = columns::take_u16(body, &mut at, &mut substitutes_room);
-    let area = columns::take_u8(body, &mut at, &mut area_room);
+    let given = columns::take(body, &mut at, &mut flags).len();
+    let glyphs = columns::take(body, &mut at, &mut glyphs_room);
+    let substitutes = columns::take(body, &mut at, &mut substitutes_room);
+    let area = columns::take(body, &mut at, &mut area_room);
     let answer = singles::serialize_single_lookup(glyphs, substitutes, flags[0], area);
-    let numbered = cases::same_u8(body, &mut at, &[refusals::number(&answer)]);
-    let counted = cases::same_u32(body, &mut at, &[cases::narrow(layouts::length(answer))]);
-    let written = cases::same_u8(body, &mut at, area);
+    let numbered = cases::same(body, &mut at, &[refusals::number(&answer)]);
+    let counted = cases::same(body, &mut at, &[cases::narrow(layouts::length(answer))]);
+    let written = cases::same(body, &mut at, area);
     let formed = (given == 1) & (at == body.len());
     tallies::judged(formed, numbered & (counted & written))
 }
 
-// Reads a case into the room lent, and replays it.
-fn turn(body: &mut [u8; 397312]) -> Outcome {
-    let c = replays::next(body);
-    let Case::Body(n) = c else {
-        return replays::stopped(c);
-    };
-    replay(replays::front(body, n))
-}
-
-// The room of a case is lent to all of them, as in `replay_stretch`. Columns of 33,000 glyphs, and an area of 132,000 bytes before and after
-// the call, fit with their heads.
+// Columns of 33,000 glyphs, and an area of 132,000 bytes before and after the call, fit with their heads.
 fn main() {
-    let mut body = [0u8; 397312];
-    let mut tally = tallies::begin();
-    let mut what = turn(&mut body);
-    while tallies::goes_on(tally, what) {
-        tally = replays::tell(tally, what);
-        what = turn(&mut body);
-    }
-    replays::finish(b"replay_single", tally, what);
+    let mut room = [0u8; 397312];
+    replays::run(b"replay_single", &mut room, replay);
 }

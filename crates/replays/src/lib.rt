@@ -1,7 +1,7 @@
 // Replaying cases: read from standard input, and what differs is told on standard output.
 //
-// A program reads a case to lent room by `next`, takes its body apart by the crates `columns` and `cases`, makes the call, and says by
-// `tallies::judged` what the case comes to. Its `main` is a loop of `tallies::goes_on` and `tell`, and `finish` behind it.
+// A program is one call of `run`, with its name, room for a case, and its own replay of one: that takes the body apart by the crates
+// `columns` and `cases`, makes the call, and says by `tallies::judged` what the case comes to.
 #![tactic(auto)]
 
 ghost use Rattle.std.specs.Prelude.{◌≡◌, true, length, take};
@@ -16,7 +16,8 @@ const STDIN_FILENO: i32 = 0;
 const STDOUT_FILENO: i32 = 1;
 
 // A case: the bytes of its body, or the end of the input, or bytes that are no case.
-#[derive(Clone, Copy)]
+// (No Option or Result: that the input ends is one of three answers, and no failure.)
+#[derive(Clone, Copy, Debug, PartialEq, Eq)]
 pub enum Case {
     Body(usize),
     End,
@@ -33,7 +34,7 @@ fn announced() -> Case {
     if n < 4 {
         return Case::Unreadable;
     }
-    Case::Body(columns::u32_at(&four, 0) as usize)
+    Case::Body(u32::from_be_bytes(four) as usize)
 }
 
 // Reads a body of `n` bytes to the start of the room.
@@ -43,8 +44,7 @@ fn fill(body: &mut [u8], n: usize) -> Case
     if body.len() < n {
         return Case::Unreadable;
     }
-    let start: usize = 0;
-    if io::read_full(STDIN_FILENO, &mut body[start..n]) == n {
+    if io::read_full(STDIN_FILENO, &mut body[..n]) == n {
         return Case::Body(n);
     }
     Case::Unreadable
@@ -65,11 +65,7 @@ pub fn next(body: &mut [u8]) -> Case
 pub fn front<'a>(room: &'a [u8], n: usize) -> &'a [u8]
     ensures { result.now ≡ take n room.now }
 {
-    if room.len() < n {
-        return room;
-    }
-    let start: usize = 0;
-    &room[start..n]
+    &room[..n.min(room.len())]
 }
 
 // What it comes to that there is no body.
@@ -111,10 +107,8 @@ fn say_differ(n: u64) {
 pub fn tell(t: Tally, what: Outcome) -> Tally
     ensures { result ≡ counted t what }
 {
-    if let Outcome::Differs = what {
-        if t.differ < 10 {
-            say_differs(t.cases);
-        }
+    if what == Outcome::Differs && t.differ < 10 {
+        say_differs(t.cases);
     }
     tallies::counted(t, what)
 }
@@ -122,10 +116,34 @@ pub fn tell(t: Tally, what: Outcome) -> Tally
 // The last line: how many cases there were and how many differ, or which one is unreadable.
 pub fn finish(name: &[u8], t: Tally, what: Outcome) {
     io::write_all(STDOUT_FILENO, name);
-    if let Outcome::Unreadable = what {
+    if what == Outcome::Unreadable {
         say_unreadable(t.cases);
         return;
     }
     say_cases(t.cases);
     say_differ(t.differ);
+}
+
+// Reads a case to the room, and replays it.
+fn turn<F: Fn(&[u8]) -> Outcome>(room: &mut [u8], replay: &F) -> Outcome
+    requires { F.IsAlwaysCallable replay.now }
+{
+    match next(room) {
+        Case::Body(n) => replay(front(room, n)),
+        c => stopped(c),
+    }
+}
+
+// A whole program: replays case after case, and tells what they come to. All cases are lent one room, since filling it anew would
+// take longer than most calls.
+pub fn run<F: Fn(&[u8]) -> Outcome>(name: &[u8], room: &mut [u8], replay: F)
+    requires { F.IsAlwaysCallable replay }
+{
+    let mut tally = tallies::begin();
+    let mut what = turn(room, &replay);
+    while tallies::goes_on(tally, what) {
+        tally = tell(tally, what);
+        what = turn(room, &replay);
+    }
+    finish(name, tally, what);
 }

@@ -1,13 +1,13 @@
 // What cases come to, and how they are counted.
 //
-// A program's `main` is a loop of `goes_on` and `counted` (by `replays::tell`): it ends, since the tally grows with each case.
+// `replays::run` is a loop of `goes_on` and `counted` (by `tell`): it ends, since the tally grows with each case.
 #![tactic(auto)]
 
 ghost use Rattle.std.specs.Prelude.{◌≡◌};
 ghost use Rattle.tallies.specs.Counting.{judged, is_case_lem, is_off_lem, up, counted, goes_on_lem};
 
 // What a case comes to: it is as it must be, or not; or the input ends; or there is no such case.
-#[derive(Clone, Copy)]
+#[derive(Clone, Copy, Debug, PartialEq, Eq)]
 pub enum Outcome {
     Same,
     Differs,
@@ -16,7 +16,7 @@ pub enum Outcome {
 }
 
 // How many cases there were, and how many of them differ.
-#[derive(Clone, Copy)]
+#[derive(Clone, Copy, Debug, PartialEq, Eq)]
 pub struct Tally {
     pub cases: u64,
     pub differ: u64,
@@ -51,43 +51,27 @@ pub fn begin() -> Tally
 fn is_case(what: Outcome) -> bool
     ensures { result ≡ is_case_lem what }
 {
-    match what {
-        Outcome::Same => true,
-        Outcome::Differs => true,
-        Outcome::End => false,
-        Outcome::Unreadable => false,
-    }
+    matches!(what, Outcome::Same | Outcome::Differs)
 }
 
 fn is_off(what: Outcome) -> bool
     ensures { result ≡ is_off_lem what }
 {
-    match what {
-        Outcome::Same => false,
-        Outcome::Differs => true,
-        Outcome::End => false,
-        Outcome::Unreadable => false,
-    }
+    what == Outcome::Differs
 }
 
 // Whether this is a case that can be counted. A loop that asks it ends: the tally grows with each case.
 pub fn goes_on(t: Tally, what: Outcome) -> bool
     ensures { result ≡ goes_on_lem t what }
 {
-    is_case(what) & (t.cases < 18446744073709551615)
+    is_case(what) & (t.cases < u64::MAX)
 }
 
 // One more, if asked for.
 fn up(more: bool, n: u64) -> u64
     ensures { result ≡ up more n }
 {
-    if !more {
-        return n;
-    }
-    if n < 18446744073709551615 {
-        return n + 1;
-    }
-    n
+    n.saturating_add(u64::from(more))
 }
 
 // The tally with one more case.

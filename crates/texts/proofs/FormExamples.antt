@@ -1,10 +1,10 @@
 -- The form on texts that are small enough to read.
 -- Assumes nothing.
+use Rattle.std.specs.Prelude.{Option, None, Some}
 use Prim.Native.Nat.{ℕ}
 use mathlib.Core.Bool.{true, false}
 use mathlib.Core.List.{List, [], ◌∷◌, ◌++◌}
 use mathlib.Core.Path.{◌≡◌, refl}
-use Rattle.texts.specs.declared.Told.TheVariants.{Unreadable, Lines}
 use Rattle.entries.specs.Form.{digit, is_code, is_number}
 use Rattle.texts.specs.Form.{lines, told, Close, whole}
 
@@ -25,23 +25,23 @@ unfolding first second
 two-ended = refl
 
 -- Their entries stand in the columns, as far as those reach.
-both-held : whole (first ++ (10 ∷ second)) (1 ∷ 1 ∷ 1 ∷ []) (1 ∷ 1 ∷ []) (1 ∷ []) [] ≡ Close (Lines 2) (1576 ∷ 1614 ∷ 1 ∷ []) (4 ∷ 4 ∷ []) (3 ∷ []) []
+both-held : whole (first ++ (10 ∷ second)) (1 ∷ 1 ∷ 1 ∷ []) (1 ∷ 1 ∷ []) (1 ∷ []) [] ≡ Close (Some 2) (1576 ∷ 1614 ∷ 1 ∷ []) (4 ∷ 4 ∷ []) (3 ∷ []) []
 unfolding first second digit is_code is_number whole
 both-held = refl
 
 -- A blank last line, a lone line end and two blanks together are of other form.
-blank-last : told (first ++ (10 ∷ (10 ∷ []))) ≡ Unreadable
+blank-last : told (first ++ (10 ∷ (10 ∷ []))) ≡ None
 unfolding first digit is_code is_number
 blank-last = refl
 
-lone_end : told (10 ∷ []) ≡ Unreadable
+lone_end : told (10 ∷ []) ≡ None
 lone_end = refl
 
-two_blanks : told (48 ∷ 54 ∷ 50 ∷ 56 ∷ 32 ∷ 32 ∷ 51 ∷ 32 ∷ 55 ∷ []) ≡ Unreadable
+two_blanks : told (48 ∷ 54 ∷ 50 ∷ 56 ∷ 32 ∷ 32 ∷ 51 ∷ 32 ∷ 55 ∷ []) ≡ None
 two_blanks = refl
 
 -- A text of no bytes has no lines.
-no_lines : told [] ≡ Lines 0
+no_lines : told [] ≡ Some 0
 no_lines = refl
 
 -- `0` has no leading zero, `007` has; `1000` has a digit too many; a small `e` is no digit.

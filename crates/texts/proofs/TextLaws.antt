@@ -1,5 +1,6 @@
 -- Reading a text byte by byte, in pieces however cut, and closing it gives what the definition by lines says of the whole text: `read_whole`.
 -- Assumes nothing.
+use Rattle.std.specs.Prelude.{Option, None, Some}
 use Prim.Native.Nat.{ℕ, suc, ◌+◌, ◌≤◌, ◌<◌, min}
 use mathlib.Core.Bool.{Bool, true, false, cond, ◌&&◌, and-false}
 use mathlib.Core.List.{List, [], ◌∷◌, ◌++◌}
@@ -12,11 +13,7 @@ use lib.ListN.{length, set, length-set}
 use lib.Seq.{sets, set_out}
 use borrow.Author.Tests.{ltb-true, ltb-false, ne_eqb}
 use Rattle.entries.specs.declared.State.{State}
-use Rattle.texts.specs.declared.Told.{Told}
-use Rattle.texts.specs.declared.Told.TheVariants.{Unreadable, Lines}
 use Rattle.entries.specs.declared.Entry.{Entry}
-use Rattle.entries.specs.declared.Line.{Line}
-use Rattle.entries.specs.declared.Line.TheVariants.{Other, Says}
 use Rattle.entries.specs.Form.{before, fields, digit, line_of}
 use Rattle.entries.specs.Steps.{start, other, follows, grown, typed, before_type, before_category, parted, within, read_in, said_by}
 use Rattle.texts.specs.Form.{codes_of, widths_of, kinds_of, categories_of, lines, says, readable, leading, entries, last, Closed, Close, whole}
@@ -42,9 +39,9 @@ finished-ended : (h : Held) → finished (ended h) ≡ ended h
 unfolding finished ended said_by
 finished-ended (Hold s c w t g) = go (said_by s)
   where
-    go : (x : Line) → let k = after x s.lines c w t g in finished k ≡ k
-    go Other = refl
-    go (Says e) = refl
+    go : (x : Option Entry) → let k = after x s.lines c w t g in finished k ≡ k
+    go None = refl
+    go (Some e) = refl
 
 -- Behind another byte one has.
 abbrev fresh : State → Bool
@@ -91,12 +88,12 @@ unfolding ended
 one_line n c w t g l =
     ap ended (run-line (start n) c w t g l)
     ∙ stored (said_by (read_in (start n) l)) (read_in (start n) l).lines
-    ∙ line_read (λ (m : ℕ) (e : Entry). after (Says e) m c w t g) (Hold other c w t g) n l
+    ∙ line_read (λ (m : ℕ) (e : Entry). after (Some e) m c w t g) (Hold other c w t g) n l
     ∙ sym (stored (line_of (fields l)) n)
   where
-    stored : (x : Line) (m : ℕ) → after x m c w t g ≡ outcome (λ (m : ℕ) (e : Entry). after (Says e) m c w t g) (Hold other c w t g) m x
-    stored Other m = refl
-    stored (Says e) m = refl
+    stored : (x : Option Entry) (m : ℕ) → after x m c w t g ≡ outcome (λ (m : ℕ) (e : Entry). after (Some e) m c w t g) (Hold other c w t g) m x
+    stored None m = refl
+    stored (Some e) m = refl
 
 -- ---- lines, counted and held
 -- The number that lines are counted to: the largest stays.
@@ -152,7 +149,7 @@ lines_other c w t g (l ∷ ls) = ap (λ (h : Held). run_lines h ls) (line_other 
 -- What lines come to behind n others, of which the columns hold what they can.
 abbrev from : ℕ → Bool → ℕ → List Entry → List ℕ → List ℕ → List ℕ → List ℕ → Closed
 from n r m es c w t g =
-    Close (cond r (Lines (min m last)) Unreadable) (sets c n (codes_of es)) (sets w n (widths_of es))
+    Close (cond r (Some (min m last)) None) (sets c n (codes_of es)) (sets w n (widths_of es))
     (sets t n (kinds_of es))
     (sets g n (categories_of es))
 
@@ -166,11 +163,11 @@ lines-run (l ∷ ls) n c w t g s =
     ∙ go (line_of (fields l)) (λ (e : Entry). lines-run ls (suc n) (set c n e.code) (set w n e.width) (set t n e.kind) (set g n e.category) (short-set n e.code e.width e.kind e.category s))
   where
     go :
-        (x : Line)
+        (x : Option Entry)
         → ((e : Entry) → closed_by (run_lines (Hold (start (min (suc n) last)) (set c n e.code) (set w n e.width) (set t n e.kind) (set g n e.category)) ls) ≡ from (suc n) (readable ls) (suc n + length ls) (entries ls) (set c n e.code) (set w n e.width) (set t n e.kind) (set g n e.category))
         → closed_by (run_lines (after x (min n last) c w t g) ls) ≡ from n (says x && readable ls) (n + suc (length ls)) (leading x (entries ls)) c w t g
-    go Other ih = ap closed_by (lines_other c w t g ls)
-    go (Says e) ih =
+    go None ih = ap closed_by (lines_other c w t g ls)
+    go (Some e) ih =
         rw (up-counts n, set-counted c n e.code s.codes, set-counted w n e.width s.widths, set-counted t n e.kind s.types, set-counted g n e.category s.categories, add-suc n (length ls), ← (suc-add n (length ls)))
         (ih e)
 
@@ -196,9 +193,9 @@ ended-back : (h : Held) → Shorts (ended h) → Shorts h
 unfolding ended
 ended-back (Hold s c w t g) = go (said_by s)
   where
-    go : (x : Line) → Shorts (after x s.lines c w t g) → Short c w t g
-    go Other q = q
-    go (Says e) q = short_back s.lines e.code e.width e.kind e.category q
+    go : (x : Option Entry) → Shorts (after x s.lines c w t g) → Short c w t g
+    go None q = q
+    go (Some e) q = short_back s.lines e.code e.width e.kind e.category q
 
 stepped-back : (h : Held) (b : ℕ) → Shorts (stepped h b) → Shorts h
 unfolding stepped
@@ -232,6 +229,6 @@ read-once p q = (cc, cc, cc, cc, cc)
 
 -- Closing allows one answer and one content of each column.
 pub close-once :
-    {x : Closed} {a b : Told} {c w t g c' w' t' g' : List ℕ} → Close a c w t g ≡ x → Close b c' w' t' g' ≡ x
+    {x : Closed} {a b : Option ℕ} {c w t g c' w' t' g' : List ℕ} → Close a c w t g ≡ x → Close b c' w' t' g' ≡ x
     → (a ≡ b) × (c ≡ c') × (w ≡ w') × (t ≡ t') × (g ≡ g')
 close-once p q = (cc, cc, cc, cc, cc)

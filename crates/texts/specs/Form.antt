@@ -7,16 +7,12 @@
 --   columns_lent                 what is made of these columns, as they are lent to a call and as they come back
 --   codes_of, widths_of, kinds_of, categories_of   these columns
 -- Assumes nothing.
-use Rattle.std.specs.Prelude.{ℕ, min, Bool, true, false, cond, ◌&&◌, List, [], ◌∷◌, map, eqb, length}
+use Rattle.std.specs.Prelude.{ℕ, min, Bool, true, false, cond, ◌&&◌, List, [], ◌∷◌, map, eqb, length, Option, None, Some}
 use Rattle.std.proofs.lemmas.List.Edits.{sets}
 use denote.Triple.Both.{Both}
 use Rattle.laws.specs.Lent.{BorrowedMut}
 use Rattle.entries.specs.declared.Entry.{Entry}
-use Rattle.entries.specs.declared.Line.{Line}
-use Rattle.entries.specs.declared.Line.TheVariants.{Other, Says}
 use Rattle.entries.specs.Form.{before, fields, line_of}
-use Rattle.texts.specs.declared.Told.{Told}
-use Rattle.texts.specs.declared.Told.TheVariants.{Unreadable, Lines}
 
 -- The lines of a text, without their line ends (10). A line end at the very end closes the last line and begins none, and a text
 -- of no bytes has no lines; a lone line end closes a line of no bytes.
@@ -25,9 +21,9 @@ lines [] = []
 lines (b ∷ bs) = cond (eqb b 10) ([] ∷ lines bs) (before b (lines bs))
 
 -- Whether a line says an entry.
-abbrev pub says : Line → Bool
-says Other = false
-says (Says e) = true
+abbrev pub says : Option Entry → Bool
+says None = false
+says (Some e) = true
 
 -- Every line says an entry; of no lines this holds.
 abbrev pub readable : List (List ℕ) → Bool
@@ -35,9 +31,9 @@ readable [] = true
 readable (l ∷ ls) = says (line_of (fields l)) && readable ls
 
 -- An entry before those of the lines behind it; a line of other form has none, and those behind it count no more.
-abbrev pub leading : Line → List Entry → List Entry
-leading Other es = []
-leading (Says e) es = e ∷ es
+abbrev pub leading : Option Entry → List Entry → List Entry
+leading None es = []
+leading (Some e) es = e ∷ es
 
 -- The entries of the lines that stand before the first of other form; all, where there is none.
 abbrev pub entries : List (List ℕ) → List Entry
@@ -49,8 +45,8 @@ abbrev pub last : ℕ
 last = 18446744073709551615
 
 -- What a text comes to: unreadable if any line is of other form, else how many lines there are.
-abbrev pub told : List ℕ → Told
-told text = cond (readable (lines text)) (Lines (min (length (lines text)) last)) Unreadable
+abbrev pub told : List ℕ → Option ℕ
+told text = cond (readable (lines text)) (Some (min (length (lines text)) last)) None
 
 -- The columns of entries: codes, with how many digits each was typed, types, categories.
 abbrev pub codes_of : List Entry → List ℕ
@@ -67,7 +63,7 @@ categories_of es = map (λ (e : Entry). e.category) es
 
 -- What a text comes to, and the columns afterwards: codes, widths, types, categories.
 pub data Closed : Type 0 where
-  Close : Told → (codes widths types categories : List ℕ) → Closed
+  Close : Option ℕ → (codes widths types categories : List ℕ) → Closed
 
 -- What `f` makes of the columns: of those lent, `.entry`, and of those that come back, `.exit`.
 abbrev pub columns_lent : {A : Type 0} → (List ℕ → List ℕ → List ℕ → List ℕ → A) → BorrowedMut ℕ → BorrowedMut ℕ → BorrowedMut ℕ → BorrowedMut ℕ → Both A A

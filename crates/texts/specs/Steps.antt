@@ -7,13 +7,10 @@
 --   read_on                  some bytes
 --   finished, told_by, closed_by, closed   the end of the text
 -- Assumes nothing.
-use Rattle.std.specs.Prelude.{ℕ, ◌+◌, cond, ◌&&◌, List, [], ◌∷◌, ltb, eqb, set}
-use Rattle.entries.specs.declared.Line.{Line}
-use Rattle.entries.specs.declared.Line.TheVariants.{Other, Says}
+use Rattle.std.specs.Prelude.{ℕ, ◌+◌, cond, ◌&&◌, List, [], ◌∷◌, ltb, eqb, set, Option, None, Some}
+use Rattle.entries.specs.declared.Entry.{Entry}
 use Rattle.entries.specs.declared.State.{State}
 use Rattle.entries.specs.Steps.{start, other, within, said_by}
-use Rattle.texts.specs.declared.Told.{Told}
-use Rattle.texts.specs.declared.Told.TheVariants.{Unreadable, Lines}
 use Rattle.texts.specs.Form.{last, Closed, Close}
 
 -- One more line; the largest number stays.
@@ -25,9 +22,9 @@ pub data Held : Type 0 where
   Hold : State → (codes widths types categories : List ℕ) → Held
 
 -- A line that says an entry: it is stored at its place n, where a column has that place, and the next line begins. A line of other form: so is the text.
-abbrev pub after : Line → ℕ → List ℕ → List ℕ → List ℕ → List ℕ → Held
-after Other n c w t g = Hold other c w t g
-after (Says e) n c w t g = Hold (start (up n)) (set c n e.code) (set w n e.width) (set t n e.kind) (set g n e.category)
+abbrev pub after : Option Entry → ℕ → List ℕ → List ℕ → List ℕ → List ℕ → Held
+after None n c w t g = Hold other c w t g
+after (Some e) n c w t g = Hold (start (up n)) (set c n e.code) (set w n e.width) (set t n e.kind) (set g n e.category)
 
 -- A line end.
 unfoldable pub ended : Held → Held
@@ -51,8 +48,8 @@ unfoldable pub finished : Held → Held
 finished (Hold s c w t g) = cond (eqb s.field 0 && eqb s.digits 0) (Hold s c w t g) (ended (Hold s c w t g))
 
 -- What a state says at the end of the text.
-abbrev pub told_by : State → Told
-told_by s = cond (eqb s.field 3) Unreadable (Lines s.lines)
+abbrev pub told_by : State → Option ℕ
+told_by s = cond (eqb s.field 3) None (Some s.lines)
 
 -- What a state and its columns come to.
 abbrev pub closed_by : Held → Closed

@@ -9,14 +9,7 @@ ghost use Rattle.entries.specs.Steps.{start as start_of};
 ghost use Rattle.texts.specs.Form.{Close, whole, columns_lent};
 ghost use Rattle.texts.specs.Steps.{up as up_of, Hold, ended, stepped, read_on, finished, told_by, closed};
 
-use entries::{Line, State};
-
-// What a whole text comes to: a line is of other form, or all are read and there are so many.
-#[derive(Clone, Copy)]
-pub enum Told {
-    Unreadable,
-    Lines(usize),
-}
+use entries::State;
 
 const LINE_END: u8 = 10;
 
@@ -24,22 +17,11 @@ const LINE_END: u8 = 10;
 fn up(n: usize) -> usize
     ensures { result ≡ up_of n }
 {
-    if n < 18446744073709551615 {
-        return n + 1;
-    }
-    n
+    n.saturating_add(1)
 }
 
 // Stores a number at its place, if the column has it.
-fn store_u32(column: &mut [u32], at: usize, x: u32)
-    ensures { column.new ≡ set column.old at x }
-{
-    if at < column.len() {
-        column[at] = x;
-    }
-}
-
-fn store_u8(column: &mut [u8], at: usize, x: u8)
+fn store<T: Copy>(column: &mut [T], at: usize, x: T)
     ensures { column.new ≡ set column.old at x }
 {
     if at < column.len() {
@@ -58,13 +40,13 @@ fn end_line(
     ensures { (columns_lent (Hold result) codes widths types categories).exit ≡ ended (columns_lent (Hold s) codes widths types categories).entry }
 {
     let n = s.lines;
-    let Line::Says(e) = entries::said(s) else {
+    let Some(e) = entries::said(s) else {
         return entries::OTHER;
     };
-    store_u32(codes, n, e.code);
-    store_u8(widths, n, e.width);
-    store_u8(types, n, e.kind);
-    store_u8(categories, n, e.category);
+    store(codes, n, e.code);
+    store(widths, n, e.width);
+    store(types, n, e.kind);
+    store(categories, n, e.category);
     entries::start(up(n))
 }
 
@@ -104,10 +86,8 @@ pub fn read_on(
     ensures { (columns_lent (Hold result) codes widths types categories).exit ≡ read_on (columns_lent (Hold s) codes widths types categories).entry piece.now }
 {
     let mut at = s;
-    let mut i = 0;
-    while i < piece.len() {
-        at = step(at, piece[i], codes, widths, types, categories);
-        i += 1;
+    for b in piece {
+        at = step(at, *b, codes, widths, types, categories);
     }
     at
 }
@@ -128,14 +108,14 @@ fn finish(
     end_line(s, codes, widths, types, categories)
 }
 
-// What a state says.
-fn verdict(s: State) -> Told
+// What a state says: how many lines there are, or nothing where one is of other form.
+fn verdict(s: State) -> Option<usize>
     ensures { result ≡ told_by s }
 {
     if s.field == 3 {
-        return Told::Unreadable;
+        return None;
     }
-    Told::Lines(s.lines)
+    Some(s.lines)
 }
 
 // The end of the text. Where the state and the columns are what reading a text from its beginning left, they come to what the definition by lines says of
@@ -146,7 +126,7 @@ pub fn close(
     widths: &mut [u8],
     types: &mut [u8],
     categories: &mut [u8],
-) -> Told
+) -> Option<usize>
     ensures state { (columns_lent (Close result) codes widths types categories).exit ≡ closed (columns_lent (Hold s) codes widths types categories).entry }
     ensures text { let before = (columns_lent (Hold s) codes widths types categories).entry in
         let after = (columns_lent (Close result) codes widths types categories).exit in

@@ -3,4 +3,4 @@
 use Rattle.cases.proofs.is_flag.Goals as goal
 
 pub returns : goal.returns
-returns c = rw c.first_u8.ensures
+returns c = rw c.first.ensures

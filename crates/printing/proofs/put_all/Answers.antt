@@ -7,15 +7,12 @@ use Rattle.printing.specs.Writing.{Wrote, writes}
 use Rattle.printing.proofs.WriteLaws.{writes-next}
 use Rattle.printing.proofs.put_all.Goals as goal
 
-pub loop-i-preserved : goal.loop-i-preserved
-loop-i-preserved c =
-    let l = c.loop-i in (
-      search rules,
-      search rules,
-      l.invariant.2 ∙ writes-next (Wrote l.out l.k) _ c.args.bytes.now l.i c.loop-i-test.true c.put-k.ensures,
-    )
+pub loop-b-preserved : goal.loop-b-preserved
+loop-b-preserved c =
+    let l = c.loop-b in
+    (search rules, l.invariant.1 ∙ writes-next (Wrote l.out l.k) _ c.args.bytes.now l.b-index c.loop-b-test.true c.put-k.ensures)
 
 pub returns : goal.returns
 returns c =
-    let l = c.loop-i in
-    sym (l.invariant.2 ∙ ap (writes (Wrote l.out l.k)) (drop_of_length-le _ c.loop-i-test.false))
+    let l = c.loop-b in
+    sym (l.invariant.1 ∙ ap (writes (Wrote l.out l.k)) (drop_of_length-le _ c.loop-b-test.false))

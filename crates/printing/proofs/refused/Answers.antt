@@ -6,5 +6,7 @@ use Rattle.printing.proofs.refused.Goals as goal
 pub returns : goal.returns
 returns c =
     let a = c.args in
-    refused_filled a.out.now a.number c.places.result _ _ _ c.refused_word-a.ensures c.places.ensures c.numeral-b.ensures
+    let n = c.from-n.ensures in
+    refused_filled a.out.now a.number c.places.result _ _ _ c.refused_word-a.ensures (rw n at c.places.ensures)
+    (rw n at c.numeral-b.ensures)
     c.put.ensures

@@ -12,5 +12,5 @@ returns c =
     c.put-b.ensures
     c.numeral-c.ensures
     c.put-d.ensures
-    c.name-e.ensures
+    (rw c.name.ensures at c.put_all-e.ensures)
     c.put.ensures

@@ -10,4 +10,4 @@ returns-in_default c = rw (← c.said.ensures.state, c.in_default.is)
 pub returns : goal.returns
 unfolding ended
 returns c =
-    rw (← c.said.ensures.state, c.in-Says.is, c.start.ensures, c.up.ensures, c.store_u32.ensures, c.store_u8.ensures, c.store_u8-2.ensures, c.store_u8-3.ensures)
+    rw (← c.said.ensures.state, c.in-Some.is, c.start.ensures, c.up.ensures, c.store.ensures, c.store-2.ensures, c.store-3.ensures, c.store-4.ensures)

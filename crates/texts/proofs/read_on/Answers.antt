@@ -7,18 +7,17 @@ use Rattle.texts.specs.Steps.{Hold, read_on}
 use Rattle.texts.proofs.ReadLaws.{read_next}
 use Rattle.texts.proofs.read_on.Goals as goal
 
-pub loop-i-preserved : goal.loop-i-preserved
-loop-i-preserved c =
-    let l = c.loop-i in (
+pub loop-b-preserved : goal.loop-b-preserved
+loop-b-preserved c =
+    let l = c.loop-b in (
       search rules,
       search rules,
       search rules,
       search rules,
-      search rules,
-      l.invariant.5 ∙ read_next c.args.piece.now l.i _ _ c.loop-i-test.true c.step-at.ensures,
+      l.invariant.4 ∙ read_next c.args.piece.now l.b-index _ _ c.loop-b-test.true c.step-at.ensures,
     )
 
 pub returns : goal.returns
 returns c =
-    let l = c.loop-i in
-    sym (l.invariant.5 ∙ ap (read_on (Hold l.at l.codes l.widths l.types l.categories)) (drop_of_length-le _ c.loop-i-test.false))
+    let l = c.loop-b in
+    sym (l.invariant.4 ∙ ap (read_on (Hold l.at l.codes l.widths l.types l.categories)) (drop_of_length-le _ c.loop-b-test.false))

@@ -1,16 +1,77 @@
--- Moving marks: parts of both columns written anew (`marks_mid`, `marks-put`, `marks-first`); a class written anew
+-- Moving marks: an exchange in both columns, and what is left to turn (`Turning`); parts of both columns written anew (`marks_mid`, `marks-put`, `marks-first`); a class written anew
 -- (`marks-class`); a part of both turned round (`turned-marks`); a block brought forward by three turns (`brought-forward`).
 -- Assumes nothing.
 use mathlib.Core.Path.{◌≡◌, refl, sym, ap, ap₂, ◌∙◌}
 use mathlib.Core.List.{List, [], ◌∷◌, ◌++◌, reverse, reverse-cons, append-nil}
-use Prim.Native.Nat.{ℕ, ◌-◌, ◌≤◌}
+use Prim.Native.Nat.{ℕ, ◌+◌, ◌-◌, ◌≤◌, ◌<◌}
 use native.Mathlib.Omega.{arith}
 use borrow.Rule.Slice.PartMut.{put_mid}
-use lib.ListN.{length, get_or, take, drop, set, length-drop, length-reverse, drop_of_length-le}
+use lib.ListN.{length, get_or, take, drop, set, length-set, length-drop, length-reverse, drop_of_length-le}
 use lib.Seq.{length-take-le, set-get_or, take_all}
-use Rattle.laws.proofs.PartLaws.{three_turns}
+use Rattle.laws.proofs.PartLaws.{turned, turn_rest, turn_more, turn_end, three_turns}
 use Rattle.blocks.specs.Marks.{Mark, mark, marks, brought}
-use Rattle.blocks.proofs.MarkLaws.{length-marks, marks-set, marks-take, marks-drop, marks-append}
+use Rattle.blocks.proofs.MarkLaws.{nothing, length-marks, marks-at, marks-set, marks-take, marks-drop, marks-append}
+
+-- columns of which the part from lo to hi is still to turn
+pub record Turning (a : ℕ) (codes₀ classes₀ codes classes : List ℕ) (lo hi : ℕ) : Type 0 where
+  pub order : lo ≤ hi
+  pub fits : hi ≤ length codes₀
+  pub codes-keep : length codes ≡ length codes₀
+  pub classes-keep : length classes ≡ length classes₀
+  pub still : take a (marks codes₀ classes₀) ++ reverse (drop a (marks codes₀ classes₀)) ≡ turned lo hi (marks codes classes)
+
+exchange :
+    (codes classes : List ℕ) (lo hi : ℕ) → lo < hi → hi < length codes → length codes ≡ length classes
+    → marks (set (set codes lo (get_or codes hi 0)) hi (get_or codes lo 0)) (set (set classes lo (get_or classes hi 0)) hi (get_or classes lo 0))
+    ≡ set (set (marks codes classes) lo (get_or (marks codes classes) hi nothing)) hi (get_or (marks codes classes) lo nothing)
+exchange codes classes lo hi h g e =
+    rw (marks-at codes classes lo nothing (omega arith) e, marks-at codes classes hi nothing g e)
+    (marks-set (set codes lo (get_or codes hi 0)) (set classes lo (get_or classes hi 0)) hi (get_or codes lo 0) (get_or classes lo 0)
+    ∙ ap (λ (l : List Mark). set l hi (mark (get_or codes lo 0) (get_or classes lo 0))) (marks-set codes classes lo (get_or codes hi 0) (get_or classes hi 0)))
+
+pub turning_begins : (a : ℕ) (codes classes : List ℕ) → length codes ≡ length classes → a ≤ length codes → Turning a codes classes codes classes a (length codes)
+turning_begins a codes classes e h =
+    let n = length-marks codes classes e in
+    record {
+      order = h;
+      fits = omega arith;
+      codes-keep = refl;
+      classes-keep = refl;
+      still = sym (turn_rest (marks codes classes) a) ∙ ap (λ (k : ℕ). turned a k (marks codes classes)) n;
+    }
+
+module _ {a : ℕ} {codes₀ classes₀ codes classes : List ℕ} {lo hi : ℕ} (e : length codes₀ ≡ length classes₀) (p : Turning a codes₀ classes₀ codes classes lo hi) where
+  keep : length codes ≡ length classes
+  keep = p.codes-keep ∙ e ∙ sym p.classes-keep
+
+  pub turning_on : lo + 1 < hi
+      → Turning a codes₀ classes₀
+      (set (set codes lo (get_or codes (hi - 1) 0)) (hi - 1) (get_or codes lo 0))
+      (set (set classes lo (get_or classes (hi - 1) 0)) (hi - 1) (get_or classes lo 0))
+      (lo + 1) (hi - 1)
+  turning_on h =
+      let k : hi - 1 + 1 ≡ hi = omega arith in
+      let n : length (marks codes classes) ≡ length codes = length-marks codes classes keep in
+      let f : length codes ≡ length codes₀ = p.codes-keep in
+      let g : hi ≤ length codes₀ = p.fits in
+      record {
+        order = omega arith;
+        fits = omega arith;
+        codes-keep = simp length-set p.codes-keep;
+        classes-keep = simp length-set p.classes-keep;
+        still =
+            p.still
+            ∙ ap (λ (x : ℕ). turned lo x (marks codes classes)) (sym k)
+            ∙ turn_more (marks codes classes) lo (hi - 1) nothing (omega arith) (omega arith)
+            ∙ ap (turned (lo + 1) (hi - 1)) (sym (exchange codes classes lo (hi - 1) (omega arith) (omega arith) keep));
+      }
+
+  pub turning_ends : hi ≤ lo + 1 → marks codes classes ≡ take a (marks codes₀ classes₀) ++ reverse (drop a (marks codes₀ classes₀))
+  turning_ends h =
+      let n : length (marks codes classes) ≡ length codes = length-marks codes classes keep in
+      let f : length codes ≡ length codes₀ = p.codes-keep in
+      let g : hi ≤ length codes₀ = p.fits in
+      sym (p.still ∙ turn_end (marks codes classes) lo hi p.order h (omega arith))
 
 -- ---- parts of both columns written anew
 -- of two columns the part of k records from a on

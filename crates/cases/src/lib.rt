@@ -1,5 +1,5 @@
 // A case's columns, as a program uses them: compared at the cursor with what a call gave, or read as one number. They are
-// taken by the crate `columns`.
+// taken by the crate `columns`; bytes are compared by the kit's own function.
 #![tactic(auto)]
 
 ghost use Rattle.std.specs.Prelude.{◌≡◌, map, get_or};
@@ -12,6 +12,9 @@ use columns::Element;
 pub fn same<T: Element>(body: &[u8], at: &mut usize, got: &[T]) -> bool
     ensures { Compare result at.new ≡ compared_at body.now T.WIDTH (map T.bits got.now) at.old }
 {
+    if let Some(bytes) = T::held(got) {
+        return check::same(columns::view_u8(body, at, body.len()), bytes);
+    }
     let s = columns::find(body, *at, T::WIDTH, body.len());
     *at = s.next;
     if s.count != got.len() {

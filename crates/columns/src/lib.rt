@@ -5,10 +5,10 @@
 // of every kind are put together by one loop, and one law over the width stands behind it. A column of signed numbers has their bits.
 #![tactic(auto)]
 
-ghost use Rattle.std.specs.Prelude.{◌≡◌, ℕ, map, ◌+◌, ◌-◌, length, get_or};
+ghost use Rattle.std.specs.Prelude.{◌≡◌, ℕ, true, false, map, ◌+◌, ◌-◌, ◌*◌, ◌≤◌, length, get_or, take, IfSome};
 ghost use Rattle.std.specs.Int.{w32};
 ghost use Rattle.std.proofs.Common.{of_z};
-ghost use Rattle.columns.specs.Form.{number_at, span_at, Took, column_at};
+ghost use Rattle.columns.specs.Form.{number_at, elements, span_at, Took, column_at};
 
 // Where the elements of a column lie, how many they are, and where the next column starts.
 #[derive(Clone, Copy)]
@@ -56,6 +56,17 @@ pub trait Element: Copy {
 
     fn bits(self) -> u32
         ensures { result ≡ bits self };
+
+    // Bytes are held as they lie in a body: they are copied at once, which takes a tenth of the time of one after the other. Says
+    // whether elements of this kind are, and so were copied to the start of `out`.
+    fn copied(bytes: &[u8], at: usize, count: usize, out: &mut [Self]) -> bool
+        requires { (at + count * WIDTH ≤ length bytes.now) × (count ≤ length out.old) }
+        ensures all { result ≡ true → (length out.new ≡ length out.old) × (map bits (take count out.new) ≡ elements bytes.now WIDTH at count) }
+        ensures none { result ≡ false → out.new ≡ out.old };
+
+    // The elements as they lie in a body, if they are held so.
+    fn held(elements: &[Self]) -> Option<&[u8]>
+        ensures { IfSome result (λ held. (WIDTH ≡ 1) × (held.now ≡ map bits elements.now)) };
 }
 
 impl Element for u8 {
@@ -72,6 +83,15 @@ impl Element for u8 {
     fn bits(self) -> u32 {
         u32::from(self)
     }
+
+    fn copied(bytes: &[u8], at: usize, count: usize, out: &mut [u8]) -> bool {
+        out[..count].copy_from_slice(&bytes[at..at + count]);
+        true
+    }
+
+    fn held(elements: &[u8]) -> Option<&[u8]> {
+        Some(elements)
+    }
 }
 
 impl Element for u16 {
@@ -87,6 +107,14 @@ impl Element for u16 {
 
     fn bits(self) -> u32 {
         u32::from(self)
+    }
+
+    fn copied(_bytes: &[u8], _at: usize, _count: usize, _out: &mut [u16]) -> bool {
+        false
+    }
+
+    fn held(_elements: &[u16]) -> Option<&[u8]> {
+        None
     }
 }
 
@@ -109,6 +137,14 @@ impl Element for u32 {
     fn bits(self) -> u32 {
         self
     }
+
+    fn copied(_bytes: &[u8], _at: usize, _count: usize, _out: &mut [u32]) -> bool {
+        false
+    }
+
+    fn held(_elements: &[u32]) -> Option<&[u8]> {
+        None
+    }
 }
 
 impl Element for i32 {
@@ -124,6 +160,14 @@ impl Element for i32 {
 
     fn bits(self) -> u32 {
         self.cast_unsigned()
+    }
+
+    fn copied(_bytes: &[u8], _at: usize, _count: usize, _out: &mut [i32]) -> bool {
+        false
+    }
+
+    fn held(_elements: &[i32]) -> Option<&[u8]> {
+        None
     }
 }
 
@@ -166,6 +210,9 @@ pub fn take<'a, T: Element>(body: &[u8], at: &mut usize, out: &'a mut [T]) -> &'
     let s = find(body, *at, T::WIDTH, out.len());
     *at = s.next;
     let count = s.count;
+    if T::copied(body, s.from, count, out) {
+        return &mut out[..count];
+    }
     let mut k = s.from;
     for i in 0..count {
         out[i] = T::read(body, k);

@@ -1,11 +1,14 @@
 -- The last step of a plan: an area that is too short is left as it was (`too_short`), any other has the bytes of the draft at its start (`put_in`). Which entries are planned (`plan-unicode`, `plan-direct`), and what the whole call answers, refused by its columns (`refused_planning`) or not (`settled-planning`).
 -- Assumes nothing.
-use mathlib.Core.Path.{◌≡◌, refl, sym, ap, ap₂, ◌∙◌}
+use mathlib.Core.Path.{◌≡◌, refl, sym, ap, ◌∙◌}
 use mathlib.Core.List.{List, ◌++◌}
-use Prim.Native.Nat.{ℕ, ◌<◌, ◌≤◌}
+use Prim.Native.Nat.{ℕ, ◌+◌, ◌<◌, ◌≤◌}
+use native.Mathlib.Nat.{zero-add}
 use native.Mathlib.Omega.{arith}
 use borrow.Author.Tests.{eq-eqb, ne_eqb, lt-ltb, le-ltb}
-use lib.ListN.{length, take, drop}
+use lib.ListN.{length, drop}
+use lib.Seq.{slice}
+use Rattle.laws.specs.Lists.{pasted}
 use Rattle.laws.specs.Rows.{first}
 use Rattle.laws.proofs.RowLaws.{first-before, first-behind}
 use Rattle.refusals.specs.declared.Refusal.TheVariants.{NoRoom}
@@ -14,6 +17,7 @@ use Rattle.refusals.specs.Numbers.{number_of}
 use Rattle.std.specs.Prelude.{Ok, Err}
 use Rattle.refusals.specs.Left.{leaves}
 use Rattle.refusals.proofs.LeftLaws.{left_refused}
+use Rattle.words.proofs.WordLaws.{paste_front}
 use Rattle.refusals.proofs.VerdictLaws.{refused_number}
 use Rattle.drafts.specs.declared.Draft.{Draft}
 use Rattle.drafts.specs.Entries.{all_bytes}
@@ -29,9 +33,10 @@ module _ (d : Draft) (scratch area : List ℕ) where
   abbrev answer : PlanAnswer
   answer = Ok (record { count = d.count; masks = d.masks; lengths = d.lengths })
 
-  pub put_in : d.end ≤ length area → (part : List ℕ) → part ≡ take d.end scratch → Settles d scratch area answer (part ++ drop d.end area)
-  put_in h part e entries p =
-      let there : part ++ drop d.end area ≡ all_bytes entries ++ drop (length (all_bytes entries)) area = ap₂ (λ (l : List ℕ) (n : ℕ). l ++ drop n area) (e ∙ p.holds) p.ends in
+  pub put_in : d.end ≤ length area → (left : List ℕ) → left ≡ pasted (slice 0 (0 + d.end) scratch) 0 area → Settles d scratch area answer left
+  put_in h left e entries p =
+      let same : slice 0 (0 + d.end) scratch ≡ all_bytes entries = ap (λ (n : ℕ). slice 0 n scratch) (zero-add d.end) ∙ p.holds in
+      let there : left ≡ all_bytes entries ++ drop (length (all_bytes entries)) area = e ∙ ap (λ (l : List ℕ). pasted l 0 area) same ∙ paste_front (all_bytes entries) area in
       rw (le-ltb (length area) (length (all_bytes entries)) (omega (arith, p.ends)), p.counted, p.masked, p.measured, there)
 
 -- ---- which entries are planned

@@ -75,7 +75,7 @@ fn settle(draft: Draft, scratch: &[u8], area: &mut [u8]) -> Result<FallbackPlan,
     if area.len() < n {
         return Err(Refusal::NoRoom);
     }
-    area[..n].copy_from_slice(&scratch[..n]);
+    parts::copy(scratch, 0, n, area, 0);
     let masks = draft.masks;
     let lengths = draft.lengths;
     Ok(FallbackPlan {

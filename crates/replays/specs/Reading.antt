@@ -1,10 +1,12 @@
--- What reading a case gives: `within` whether a body that was read lies in its room; `stopped` what it comes to that there is none.
+-- What reading a case gives: `within` whether a body that was read lies in its room; `stopped` what it comes to that there is none;
+-- `Turned` that what is counted as a case is what the replay answers.
 -- Assumes nothing.
-use Rattle.std.specs.Prelude.{ℕ, Bool, true, leb}
+use Rattle.std.specs.Prelude.{ℕ, List, ◌≡◌, Bool, true, leb}
 use Rattle.replays.specs.declared.Case.{Case}
 use Rattle.replays.specs.declared.Case.TheVariants.{Body, End, Unreadable}
 use Rattle.tallies.specs.declared.Outcome.{Outcome}
 use Rattle.tallies.specs.declared.Outcome.TheVariants as outcome
+use Rattle.tallies.specs.Counting.{is_case_lem}
 
 -- Whether a body that was read is no longer than its room; the end and what is unreadable have no body.
 abbrev pub within : Case → ℕ → Bool
@@ -18,3 +20,7 @@ abbrev pub stopped : Case → Outcome
 stopped (Body n) = outcome.Unreadable
 stopped End = outcome.End
 stopped Unreadable = outcome.Unreadable
+
+-- A turn that comes to a case comes to what the replay may answer of some bytes.
+abbrev pub Turned : (List ℕ → Outcome → Type 0) → Outcome → Type 0
+Turned answers what = is_case_lem what ≡ true → (bytes : List ℕ) × answers bytes what

@@ -4,9 +4,10 @@
 // `columns` and `cases`, makes the call, and says by `tallies::judged` what the case comes to.
 #![tactic(auto)]
 
-ghost use Rattle.std.specs.Prelude.{◌≡◌, true, length, take};
-ghost use Rattle.replays.specs.Reading.{within, stopped};
-ghost use Rattle.tallies.specs.Counting.{counted};
+ghost use Rattle.std.specs.Prelude.{◌≡◌, true, false, length, take};
+ghost use Rattle.std.specs.Fn.{FnReturnsAt};
+ghost use Rattle.replays.specs.Reading.{within, stopped, Turned};
+ghost use Rattle.tallies.specs.Counting.{counted, goes_on_lem};
 
 use tallies::{Outcome, Tally};
 
@@ -127,6 +128,7 @@ pub fn finish(name: &[u8], t: Tally, what: Outcome) {
 // Reads a case to the room, and replays it.
 fn turn<F: Fn(&[u8]) -> Outcome>(room: &mut [u8], replay: &F) -> Outcome
     requires { F.IsAlwaysCallable replay.now }
+    ensures { Turned (FnReturnsAt F.Fn replay.now) result }
 {
     match next(room) {
         Case::Body(n) => replay(front(room, n)),
@@ -134,10 +136,11 @@ fn turn<F: Fn(&[u8]) -> Outcome>(room: &mut [u8], replay: &F) -> Outcome
     }
 }
 
-// A whole program: replays case after case, and tells what they come to. All cases are lent one room, since filling it anew would
-// take longer than most calls.
-pub fn run<F: Fn(&[u8]) -> Outcome>(name: &[u8], room: &mut [u8], replay: F)
+// A whole program: replays case after case, tells what they come to, and says where it ended: at the end of the input or at what is
+// unreadable, or where no more can be counted. All cases are lent one room, since filling it anew would take longer than most calls.
+pub fn run<F: Fn(&[u8]) -> Outcome>(name: &[u8], room: &mut [u8], replay: F) -> (Tally, Outcome)
     requires { F.IsAlwaysCallable replay }
+    ensures { goes_on_lem result.0 result.1 ≡ false }
 {
     let mut tally = tallies::begin();
     let mut what = turn(room, &replay);
@@ -146,4 +149,5 @@ pub fn run<F: Fn(&[u8]) -> Outcome>(name: &[u8], room: &mut [u8], replay: F)
         what = turn(room, &replay);
     }
     finish(name, tally, what);
+    (tally, what)
 }

@@ -9,4 +9,4 @@ returns-then-area-n c =
 
 pub returns : goal.returns
 returns c =
-    put_in c.args.draft c.args.scratch.now c.args.area.now c.if-area-n.false c.copy_from_slice.new.self c.copy_from_slice.ensures.after
+    put_in c.args.draft c.args.scratch.now c.args.area.now c.if-area-n.false c.copy.new.to c.copy.ensures

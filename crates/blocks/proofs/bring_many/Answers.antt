@@ -1,4 +1,4 @@
--- `blocks::bring` meets its contract: two parts are turned round, and then both.
+-- `blocks::bring_many` meets its contract: two parts are turned round, and then both.
 -- Assumes nothing.
 use mathlib.Core.Path.{◌≡◌, sym, ◌∙◌}
 use Prim.Native.Nat.{◌≤◌}
@@ -6,7 +6,7 @@ use native.Mathlib.Omega.{arith}
 use lib.ListN.{length, take}
 use lib.Seq.{length-take-le}
 use Rattle.blocks.proofs.BlockLaws.{brought-forward}
-use Rattle.blocks.proofs.bring.Goals as goal
+use Rattle.blocks.proofs.bring_many.Goals as goal
 
 pub slice_bounds-turn-end-2 : goal.slice_bounds-turn-end-2
 slice_bounds-turn-end-2 c = sym (length-take-le _ _ c.requires.n_in_bounds)

@@ -6,7 +6,7 @@ ghost use Rattle.std.specs.Prelude.{◌≡◌, ◌++◌, reverse, ◌≤◌, len
 ghost use Rattle.blocks.specs.Marks.{marks, brought};
 
 // A part of fewer records is moved by loops over both columns.
-const FEW: usize = 16;
+const FEW: usize = 32;
 
 // Turns both columns round from `a` on, record by record. (No `for`: two places come towards each other.)
 #[inline(always)]

@@ -2,7 +2,7 @@
 //
 // A column that is not of the form, cut short or too long is taken as an empty one, and the cursor is then past every body: from
 // there on every column is empty, so that a caller looks at the cursor once, at the end. Bytes are viewed or copied as they lie there;
-// elements of every wider kind are put together by one loop, and one law over the width stands behind it. A column of signed numbers has their bits.
+// elements of every other kind are put together by one loop, and one law over the width stands behind it. A column of signed numbers has their bits.
 #![tactic(auto)]
 
 ghost use Rattle.std.specs.Prelude.{◌≡◌, ℕ, true, false, map, ◌+◌, ◌-◌, ◌*◌, ◌≤◌, length, get_or, take, IfSome};
@@ -56,17 +56,27 @@ pub trait Element: Copy {
 
     fn bits(self) -> u32
         ensures { result ≡ bits self };
+}
 
-    // Bytes are held as they lie in a body: they are copied at once, since one after the other took twice as long where a case has a
-    // large area. Says whether elements of this kind are held so, and were copied to the start of `out`.
+// A kind that also says whether its elements are held as they lie in a body. Bytes are: they are copied and compared at once, since one
+// after the other took twice as long where a case has a large area. A kind that says nothing of it counts as one that is not.
+pub trait Stored: Element {
+    // Whether elements of this kind are held so, and were copied to the start of `out`.
     fn copied(bytes: &[u8], at: usize, count: usize, out: &mut [Self]) -> bool
-        requires { (at + count * WIDTH ≤ length bytes.now) × (count ≤ length out.old) }
-        ensures all { result ≡ true → (length out.new ≡ length out.old) × (map bits (take count out.new) ≡ elements bytes.now WIDTH at count) }
-        ensures none { result ≡ false → out.new ≡ out.old };
+        requires { (at + count * Self.WIDTH ≤ length bytes.now) × (count ≤ length out.old) }
+        ensures all { result ≡ true → (length out.new ≡ length out.old) × (map Self.bits (take count out.new) ≡ elements bytes.now Self.WIDTH at count) }
+        ensures none { result ≡ false → out.new ≡ out.old }
+    {
+        // Nothing is copied.
+        false
+    }
 
     // The elements as they lie in a body, if they are held so.
     fn held(elements: &[Self]) -> Option<&[u8]>
-        ensures { IfSome result (λ held. (WIDTH ≡ 1) × (held.now ≡ map bits elements.now)) };
+        ensures { IfSome result (λ held. (Self.WIDTH ≡ 1) × (held.now ≡ map Self.bits elements.now)) }
+    {
+        None
+    }
 }
 
 impl Element for u8 {
@@ -83,7 +93,9 @@ impl Element for u8 {
     fn bits(self) -> u32 {
         u32::from(self)
     }
+}
 
+impl Stored for u8 {
     fn copied(bytes: &[u8], at: usize, count: usize, out: &mut [u8]) -> bool {
         out[..count].copy_from_slice(&bytes[at..at + count]);
         true
@@ -108,15 +120,9 @@ impl Element for u16 {
     fn bits(self) -> u32 {
         u32::from(self)
     }
-
-    fn copied(_bytes: &[u8], _at: usize, _count: usize, _out: &mut [u16]) -> bool {
-        false
-    }
-
-    fn held(_elements: &[u16]) -> Option<&[u8]> {
-        None
-    }
 }
+
+impl Stored for u16 {}
 
 impl Element for u32 {
     ghost WIDTH = { 4 };
@@ -137,15 +143,9 @@ impl Element for u32 {
     fn bits(self) -> u32 {
         self
     }
-
-    fn copied(_bytes: &[u8], _at: usize, _count: usize, _out: &mut [u32]) -> bool {
-        false
-    }
-
-    fn held(_elements: &[u32]) -> Option<&[u8]> {
-        None
-    }
 }
+
+impl Stored for u32 {}
 
 impl Element for i32 {
     ghost WIDTH = { 4 };
@@ -161,15 +161,9 @@ impl Element for i32 {
     fn bits(self) -> u32 {
         self.cast_unsigned()
     }
-
-    fn copied(_bytes: &[u8], _at: usize, _count: usize, _out: &mut [i32]) -> bool {
-        false
-    }
-
-    fn held(_elements: &[i32]) -> Option<&[u8]> {
-        None
-    }
 }
+
+impl Stored for i32 {}
 
 // The column at the cursor, if it has this width, at most so many elements, and is whole.
 pub fn find(body: &[u8], at: usize, width: u8, most: usize) -> Span
@@ -203,20 +197,39 @@ pub fn view_u8<'a>(body: &'a [u8], at: &mut usize, most: usize) -> &'a [u8]
     &body[from..to]
 }
 
-// The column at the cursor goes to the start of `out`; answers that part of `out`. One longer than `out` is none.
-pub fn take<'a, T: Element>(body: &[u8], at: &mut usize, out: &'a mut [T]) -> &'a mut [T]
-    ensures { Took (map T.bits result.now) at.new ≡ column_at body.now T.WIDTH (length out.old) at.old }
+// The elements of a column, one after the other, to the start of `out`; answers that part of `out`.
+fn gather<'a, T: Element>(body: &[u8], s: Span, out: &'a mut [T]) -> &'a mut [T]
+    requires inside { s.from + s.count * T.WIDTH ≤ length body.now }
+    requires few { s.count ≤ length out.old }
+    ensures { map T.bits result.now ≡ elements body.now T.WIDTH s.from s.count }
 {
-    let s = find(body, *at, T::WIDTH, out.len());
-    *at = s.next;
     let count = s.count;
-    if T::copied(body, s.from, count, out) {
-        return &mut out[..count];
-    }
     let mut k = s.from;
     for i in 0..count {
         out[i] = T::read(body, k);
         k += usize::from(T::WIDTH);
     }
     &mut out[..count]
+}
+
+// The column at the cursor goes to the start of `out`; answers that part of `out`. One longer than `out` is none.
+pub fn take<'a, T: Element>(body: &[u8], at: &mut usize, out: &'a mut [T]) -> &'a mut [T]
+    ensures { Took (map T.bits result.now) at.new ≡ column_at body.now T.WIDTH (length out.old) at.old }
+{
+    let most = out.len();
+    let column = find(body, *at, T::WIDTH, most);
+    *at = column.next;
+    gather(body, column, out)
+}
+
+// The same, of a kind that says how its elements are held.
+pub fn take_stored<'a, T: Stored>(body: &[u8], at: &mut usize, out: &'a mut [T]) -> &'a mut [T]
+    ensures { Took (map T.bits result.now) at.new ≡ column_at body.now T.WIDTH (length out.old) at.old }
+{
+    let s = find(body, *at, T::WIDTH, out.len());
+    *at = s.next;
+    if T::copied(body, s.from, s.count, out) {
+        return &mut out[..s.count];
+    }
+    gather(body, s, out)
 }

@@ -14,17 +14,17 @@ fn replay(body: &[u8]) -> Outcome {
     let mut actions_room = [0u8; 4200];
     let mut masks_room = [0u32; 4200];
     let mongolian = columns::view_u8(body, &mut at, 1);
-    let given = columns::take(body, &mut at, &mut features).len();
+    let given = columns::take_stored(body, &mut at, &mut features).len();
     let pre_types = columns::view_u8(body, &mut at, 80);
     let pre_categories = columns::view_u8(body, &mut at, 80);
     let post_types = columns::view_u8(body, &mut at, 80);
     let post_categories = columns::view_u8(body, &mut at, 80);
-    let codes = columns::take(body, &mut at, &mut codes_room);
+    let codes = columns::take_stored(body, &mut at, &mut codes_room);
     let types = columns::view_u8(body, &mut at, 4200);
     let categories = columns::view_u8(body, &mut at, 4200);
-    let base = columns::take(body, &mut at, &mut base_room);
-    let actions = columns::take(body, &mut at, &mut actions_room);
-    let masks = columns::take(body, &mut at, &mut masks_room);
+    let base = columns::take_stored(body, &mut at, &mut base_room);
+    let actions = columns::take_stored(body, &mut at, &mut actions_room);
+    let masks = columns::take_stored(body, &mut at, &mut masks_room);
     let verdict = lines::join_line(
         codes,
         types,
@@ -41,9 +41,9 @@ fn replay(body: &[u8]) -> Outcome {
         actions,
         masks,
     );
-    let number = cases::same(body, &mut at, &[refusals::number(&verdict)]);
-    let acted = cases::same(body, &mut at, actions);
-    let masked = cases::same(body, &mut at, masks);
+    let number = cases::same_stored(body, &mut at, &[refusals::number(&verdict)]);
+    let acted = cases::same_stored(body, &mut at, actions);
+    let masked = cases::same_stored(body, &mut at, masks);
     let formed = cases::is_flag(mongolian) & ((given == 7) & (at == body.len()));
     tallies::judged(formed, number & (acted & masked))
 }

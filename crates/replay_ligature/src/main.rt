@@ -12,10 +12,10 @@ fn replay(body: &[u8]) -> Outcome {
     let mut ligatures_room = [0u16; 16500];
     let mut area_room = [0u8; 132000];
     let n = columns::view_u8(body, &mut at, 1);
-    let given = columns::take(body, &mut at, &mut flags).len();
-    let components = columns::take(body, &mut at, &mut components_room);
-    let ligatures = columns::take(body, &mut at, &mut ligatures_room);
-    let area = columns::take(body, &mut at, &mut area_room);
+    let given = columns::take_stored(body, &mut at, &mut flags).len();
+    let components = columns::take_stored(body, &mut at, &mut components_room);
+    let ligatures = columns::take_stored(body, &mut at, &mut ligatures_room);
+    let area = columns::take_stored(body, &mut at, &mut area_room);
     let answer = ligatures::serialize_ligature_lookup(
         cases::first(n, 0),
         components,
@@ -23,9 +23,9 @@ fn replay(body: &[u8]) -> Outcome {
         flags[0],
         area,
     );
-    let numbered = cases::same(body, &mut at, &[refusals::number(&answer)]);
-    let counted = cases::same(body, &mut at, &[cases::narrow(layouts::length(answer))]);
-    let written = cases::same(body, &mut at, area);
+    let numbered = cases::same_stored(body, &mut at, &[refusals::number(&answer)]);
+    let counted = cases::same_stored(body, &mut at, &[cases::narrow(layouts::length(answer))]);
+    let written = cases::same_stored(body, &mut at, area);
     let formed = (n.len() == 1) & ((given == 1) & (at == body.len()));
     tallies::judged(formed, numbered & (counted & written))
 }

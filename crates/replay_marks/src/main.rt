@@ -8,9 +8,13 @@ use tallies::Outcome;
 // The column at the cursor has these ranges. (A place past all of 32 bits becomes the last, where no part ends.)
 fn same_merged(body: &[u8], at: &mut usize, merged: Merged) -> bool {
     match merged {
-        Merged::Nothing => cases::same::<u32>(body, at, &[]),
-        Merged::One(a) => cases::same(body, at, &[cases::narrow(a.from), cases::narrow(a.to)]),
-        Merged::Two(a, b) => cases::same(
+        Merged::Nothing => cases::same_stored::<u32>(body, at, &[]),
+        Merged::One(a) => cases::same_stored(
+            body,
+            at,
+            &[cases::narrow(a.from), cases::narrow(a.to)],
+        ),
+        Merged::Two(a, b) => cases::same_stored(
             body,
             at,
             &[
@@ -31,11 +35,11 @@ fn replay(body: &[u8]) -> Outcome {
     let mut start_room = [0u32; 1];
     let mut end_room = [0u32; 1];
     let mut lent = [0u8; 2];
-    let codes = columns::take(body, &mut at, &mut codes_room);
-    let classes = columns::take(body, &mut at, &mut classes_room);
-    let starts = columns::take(body, &mut at, &mut start_room).len();
-    let ends = columns::take(body, &mut at, &mut end_room).len();
-    let given = columns::take(body, &mut at, &mut lent).len();
+    let codes = columns::take_stored(body, &mut at, &mut codes_room);
+    let classes = columns::take_stored(body, &mut at, &mut classes_room);
+    let starts = columns::take_stored(body, &mut at, &mut start_room).len();
+    let ends = columns::take_stored(body, &mut at, &mut end_room).len();
+    let given = columns::take_stored(body, &mut at, &mut lent).len();
     let answer = marks::reorder_modifier_combining_marks(
         codes,
         classes,
@@ -44,10 +48,10 @@ fn replay(body: &[u8]) -> Outcome {
         lent[0],
         lent[1],
     );
-    let numbered = cases::same(body, &mut at, &[refusals::number(&answer)]);
+    let numbered = cases::same_stored(body, &mut at, &[refusals::number(&answer)]);
     let merged = same_merged(body, &mut at, answer.unwrap_or(Merged::Nothing));
-    let coded = cases::same(body, &mut at, codes);
-    let classed = cases::same(body, &mut at, classes);
+    let coded = cases::same_stored(body, &mut at, codes);
+    let classed = cases::same_stored(body, &mut at, classes);
     let formed = (starts == 1) & ((ends == 1) & ((given == 2) & (at == body.len())));
     tallies::judged(formed, numbered & (merged & (coded & classed)))
 }

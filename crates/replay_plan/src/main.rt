@@ -21,18 +21,18 @@ fn replay(body: &[u8]) -> Outcome {
     let mut mark_components_room = [0u16; 2080];
     let mut mark_ligatures_room = [0u16; 1040];
     let mut area_room = [0u8; 132000];
-    let given = columns::take(body, &mut at, &mut masks).len();
-    let codes = columns::take(body, &mut at, &mut codes_room);
-    let glyphs = columns::take(body, &mut at, &mut glyphs_room);
-    let shaping = columns::take(body, &mut at, &mut shaping_room);
-    let forms = columns::take(body, &mut at, &mut forms_room);
-    let three_components = columns::take(body, &mut at, &mut three_components_room);
-    let three_ligatures = columns::take(body, &mut at, &mut three_ligatures_room);
-    let two_components = columns::take(body, &mut at, &mut two_components_room);
-    let two_ligatures = columns::take(body, &mut at, &mut two_ligatures_room);
-    let mark_components = columns::take(body, &mut at, &mut mark_components_room);
-    let mark_ligatures = columns::take(body, &mut at, &mut mark_ligatures_room);
-    let area = columns::take(body, &mut at, &mut area_room);
+    let given = columns::take_stored(body, &mut at, &mut masks).len();
+    let codes = columns::take_stored(body, &mut at, &mut codes_room);
+    let glyphs = columns::take_stored(body, &mut at, &mut glyphs_room);
+    let shaping = columns::take_stored(body, &mut at, &mut shaping_room);
+    let forms = columns::take_stored(body, &mut at, &mut forms_room);
+    let three_components = columns::take_stored(body, &mut at, &mut three_components_room);
+    let three_ligatures = columns::take_stored(body, &mut at, &mut three_ligatures_room);
+    let two_components = columns::take_stored(body, &mut at, &mut two_components_room);
+    let two_ligatures = columns::take_stored(body, &mut at, &mut two_ligatures_room);
+    let mark_components = columns::take_stored(body, &mut at, &mut mark_components_room);
+    let mark_ligatures = columns::take_stored(body, &mut at, &mut mark_ligatures_room);
+    let area = columns::take_stored(body, &mut at, &mut area_room);
     let answer = FallbackPlan::new(
         masks,
         codes,
@@ -47,7 +47,7 @@ fn replay(body: &[u8]) -> Outcome {
         mark_ligatures,
         area,
     );
-    let numbered = cases::same(body, &mut at, &[refusals::number(&answer)]);
+    let numbered = cases::same_stored(body, &mut at, &[refusals::number(&answer)]);
     // A refusal says zeros.
     let plan = answer.unwrap_or(FallbackPlan {
         count: 0,
@@ -56,10 +56,10 @@ fn replay(body: &[u8]) -> Outcome {
     });
     // The count is in a byte: what is past them all becomes the last, which no plan has.
     let count = u8::try_from(plan.count).unwrap_or(u8::MAX);
-    let counted = cases::same(body, &mut at, &[count]);
-    let masked = cases::same(body, &mut at, &plan.masks);
-    let measured = cases::same(body, &mut at, &plan.lengths);
-    let written = cases::same(body, &mut at, area);
+    let counted = cases::same_stored(body, &mut at, &[count]);
+    let masked = cases::same_stored(body, &mut at, &plan.masks);
+    let measured = cases::same_stored(body, &mut at, &plan.lengths);
+    let written = cases::same_stored(body, &mut at, area);
     let formed = (given == 5) & (at == body.len());
     let told = numbered & (counted & (masked & measured));
     tallies::judged(formed, told & written)

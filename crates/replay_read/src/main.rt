@@ -31,18 +31,18 @@ fn replay(body: &[u8]) -> Outcome {
     let mut glyphs_room = [0u16; 40000];
     let mut substitutes_room = [0u16; 33000];
     let bytes = columns::view_u8(body, &mut at, 132000);
-    let glyphs = columns::take(body, &mut at, &mut glyphs_room);
-    let substitutes = columns::take(body, &mut at, &mut substitutes_room);
+    let glyphs = columns::take_stored(body, &mut at, &mut glyphs_room);
+    let substitutes = columns::take_stored(body, &mut at, &mut substitutes_room);
     let answer = reading::read_lookup(bytes, glyphs, substitutes);
     // A refused call says nothing beside its number.
     let what = answer.map(told).unwrap_or_default();
-    let numbered = cases::same(body, &mut at, &[refusals::number(&answer)]);
-    let named = cases::same(body, &mut at, &[what.kind]);
-    let counted = cases::same(body, &mut at, &[what.components]);
-    let flagged = cases::same(body, &mut at, &[what.flags]);
-    let measured = cases::same(body, &mut at, &[what.len]);
-    let glyphs_same = cases::same(body, &mut at, glyphs);
-    let substitutes_same = cases::same(body, &mut at, substitutes);
+    let numbered = cases::same_stored(body, &mut at, &[refusals::number(&answer)]);
+    let named = cases::same_stored(body, &mut at, &[what.kind]);
+    let counted = cases::same_stored(body, &mut at, &[what.components]);
+    let flagged = cases::same_stored(body, &mut at, &[what.flags]);
+    let measured = cases::same_stored(body, &mut at, &[what.len]);
+    let glyphs_same = cases::same_stored(body, &mut at, glyphs);
+    let substitutes_same = cases::same_stored(body, &mut at, substitutes);
     let said_same = numbered & (named & (counted & (flagged & measured)));
     tallies::judged(
         at == body.len(),

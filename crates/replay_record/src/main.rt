@@ -9,14 +9,14 @@ fn replay(body: &[u8]) -> Outcome {
     let mut at: usize = 0;
     let mut mask = [0u32; 1];
     let mut actions_room = [0u8; 4200];
-    let given = columns::take(body, &mut at, &mut mask).len();
+    let given = columns::take_stored(body, &mut at, &mut mask).len();
     let multiplied = columns::view_u8(body, &mut at, 4200);
     let components = columns::view_u8(body, &mut at, 4200);
-    let actions = columns::take(body, &mut at, &mut actions_room);
+    let actions = columns::take_stored(body, &mut at, &mut actions_room);
     let answer = recording::record_stch(mask[0], multiplied, components, actions);
-    let numbered = cases::same(body, &mut at, &[refusals::number(&answer)]);
-    let told = cases::same(body, &mut at, &[answer.unwrap_or(false) as u8]);
-    let acted = cases::same(body, &mut at, actions);
+    let numbered = cases::same_stored(body, &mut at, &[refusals::number(&answer)]);
+    let told = cases::same_stored(body, &mut at, &[answer.unwrap_or(false) as u8]);
+    let acted = cases::same_stored(body, &mut at, actions);
     let formed = (given == 1) & (at == body.len());
     tallies::judged(formed, numbered & (told & acted))
 }

@@ -30,10 +30,10 @@ fn replay(body: &[u8]) -> Outcome {
     let mut at: usize = 0;
     let mut three = [0u32; 3];
     let mut room = [0u32; 4200];
-    let given = columns::take(body, &mut at, &mut three).len();
+    let given = columns::take_stored(body, &mut at, &mut three).len();
     let column = columns::view_u8(body, &mut at, 4200);
     let bound = columns::view_u8(body, &mut at, 1);
-    let codes = columns::take(body, &mut at, &mut room);
+    let codes = columns::take_stored(body, &mut at, &mut room);
     let got = numbers(
         three[0],
         three[1],
@@ -42,7 +42,7 @@ fn replay(body: &[u8]) -> Outcome {
         cases::first(bound, 0),
         codes,
     );
-    let agrees = cases::same(body, &mut at, &got);
+    let agrees = cases::same_stored(body, &mut at, &got);
     let formed = (given == 3) & ((bound.len() == 1) & (at == body.len()));
     tallies::judged(formed, agrees)
 }

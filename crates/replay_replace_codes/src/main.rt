@@ -22,18 +22,18 @@ fn replay(body: &[u8]) -> Outcome {
     let mut place_room = [0u32; 1];
     let mut code_room = [0u32; 1];
     let mongolian = columns::view_u8(body, &mut at, 1);
-    let given = columns::take(body, &mut at, &mut features).len();
-    let pre_codes = columns::take(body, &mut at, &mut pre_room);
+    let given = columns::take_stored(body, &mut at, &mut features).len();
+    let pre_codes = columns::take_stored(body, &mut at, &mut pre_room);
     let pre_categories = columns::view_u8(body, &mut at, 80);
-    let post_codes = columns::take(body, &mut at, &mut post_room);
+    let post_codes = columns::take_stored(body, &mut at, &mut post_room);
     let post_categories = columns::view_u8(body, &mut at, 80);
-    let codes = columns::take(body, &mut at, &mut codes_room);
-    let categories = columns::take(body, &mut at, &mut categories_room);
-    let base = columns::take(body, &mut at, &mut base_room);
-    let actions = columns::take(body, &mut at, &mut actions_room);
-    let masks = columns::take(body, &mut at, &mut masks_room);
-    let places = columns::take(body, &mut at, &mut place_room).len();
-    let new_codes = columns::take(body, &mut at, &mut code_room).len();
+    let codes = columns::take_stored(body, &mut at, &mut codes_room);
+    let categories = columns::take_stored(body, &mut at, &mut categories_room);
+    let base = columns::take_stored(body, &mut at, &mut base_room);
+    let actions = columns::take_stored(body, &mut at, &mut actions_room);
+    let masks = columns::take_stored(body, &mut at, &mut masks_room);
+    let places = columns::take_stored(body, &mut at, &mut place_room).len();
+    let new_codes = columns::take_stored(body, &mut at, &mut code_room).len();
     let category = columns::view_u8(body, &mut at, 1);
     let verdict = coded::replace_code(
         codes,
@@ -55,11 +55,11 @@ fn replay(body: &[u8]) -> Outcome {
             category: Category(cases::first(category, 0)),
         },
     );
-    let number = cases::same(body, &mut at, &[refusals::number(&verdict)]);
-    let coded = cases::same(body, &mut at, codes);
-    let sorted = cases::same(body, &mut at, categories);
-    let acted = cases::same(body, &mut at, actions);
-    let masked = cases::same(body, &mut at, masks);
+    let number = cases::same_stored(body, &mut at, &[refusals::number(&verdict)]);
+    let coded = cases::same_stored(body, &mut at, codes);
+    let sorted = cases::same_stored(body, &mut at, categories);
+    let acted = cases::same_stored(body, &mut at, actions);
+    let masked = cases::same_stored(body, &mut at, masks);
     let singles = (places == 1) & ((new_codes == 1) & (category.len() == 1));
     let formed = cases::is_flag(mongolian) & ((given == 7) & (singles & (at == body.len())));
     tallies::judged(formed, number & (coded & (sorted & (acted & masked))))

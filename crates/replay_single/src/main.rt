@@ -11,14 +11,14 @@ fn replay(body: &[u8]) -> Outcome {
     let mut glyphs_room = [0u16; 33000];
     let mut substitutes_room = [0u16; 33000];
     let mut area_room = [0u8; 132000];
-    let given = columns::take(body, &mut at, &mut flags).len();
-    let glyphs = columns::take(body, &mut at, &mut glyphs_room);
-    let substitutes = columns::take(body, &mut at, &mut substitutes_room);
-    let area = columns::take(body, &mut at, &mut area_room);
+    let given = columns::take_stored(body, &mut at, &mut flags).len();
+    let glyphs = columns::take_stored(body, &mut at, &mut glyphs_room);
+    let substitutes = columns::take_stored(body, &mut at, &mut substitutes_room);
+    let area = columns::take_stored(body, &mut at, &mut area_room);
     let answer = singles::serialize_single_lookup(glyphs, substitutes, flags[0], area);
-    let numbered = cases::same(body, &mut at, &[refusals::number(&answer)]);
-    let counted = cases::same(body, &mut at, &[cases::narrow(layouts::length(answer))]);
-    let written = cases::same(body, &mut at, area);
+    let numbered = cases::same_stored(body, &mut at, &[refusals::number(&answer)]);
+    let counted = cases::same_stored(body, &mut at, &[cases::narrow(layouts::length(answer))]);
+    let written = cases::same_stored(body, &mut at, area);
     let formed = (given == 1) & (at == body.len());
     tallies::judged(formed, numbered & (counted & written))
 }

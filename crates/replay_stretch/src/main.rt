@@ -21,20 +21,20 @@ fn replay(body: &[u8]) -> Outcome {
     let mut to_offsets_room = [0i32; 16400];
     let recorded = columns::view_u8(body, &mut at, 1);
     let rtl = columns::view_u8(body, &mut at, 1);
-    let glyphs = columns::take(body, &mut at, &mut glyphs_room);
-    let widths = columns::take(body, &mut at, &mut widths_room);
+    let glyphs = columns::take_stored(body, &mut at, &mut glyphs_room);
+    let widths = columns::take_stored(body, &mut at, &mut widths_room);
     let categories = columns::view_u8(body, &mut at, 4200);
     let ignorables = columns::view_u8(body, &mut at, 4200);
     let actions = columns::view_u8(body, &mut at, 4200);
-    let advances = columns::take(body, &mut at, &mut advances_room);
-    let offsets = columns::take(body, &mut at, &mut offsets_room);
-    let to_glyphs = columns::take(body, &mut at, &mut to_glyphs_room);
-    let to_widths = columns::take(body, &mut at, &mut to_widths_room);
-    let to_categories = columns::take(body, &mut at, &mut to_categories_room);
-    let to_ignorables = columns::take(body, &mut at, &mut to_ignorables_room);
-    let to_actions = columns::take(body, &mut at, &mut to_actions_room);
-    let to_advances = columns::take(body, &mut at, &mut to_advances_room);
-    let to_offsets = columns::take(body, &mut at, &mut to_offsets_room);
+    let advances = columns::take_stored(body, &mut at, &mut advances_room);
+    let offsets = columns::take_stored(body, &mut at, &mut offsets_room);
+    let to_glyphs = columns::take_stored(body, &mut at, &mut to_glyphs_room);
+    let to_widths = columns::take_stored(body, &mut at, &mut to_widths_room);
+    let to_categories = columns::take_stored(body, &mut at, &mut to_categories_room);
+    let to_ignorables = columns::take_stored(body, &mut at, &mut to_ignorables_room);
+    let to_actions = columns::take_stored(body, &mut at, &mut to_actions_room);
+    let to_advances = columns::take_stored(body, &mut at, &mut to_advances_room);
+    let to_offsets = columns::take_stored(body, &mut at, &mut to_offsets_room);
     let answer = stretching::stretch(
         cases::first(recorded, 0) == 1,
         cases::first(rtl, 0) == 1,
@@ -53,15 +53,15 @@ fn replay(body: &[u8]) -> Outcome {
         to_advances,
         to_offsets,
     );
-    let numbered = cases::same(body, &mut at, &[refusals::number(&answer)]);
-    let counted = cases::same(body, &mut at, &[cases::narrow(answer.unwrap_or(0))]);
-    let glyphs_same = cases::same(body, &mut at, to_glyphs);
-    let widths_same = cases::same(body, &mut at, to_widths);
-    let categories_same = cases::same(body, &mut at, to_categories);
-    let ignorables_same = cases::same(body, &mut at, to_ignorables);
-    let actions_same = cases::same(body, &mut at, to_actions);
-    let advances_same = cases::same(body, &mut at, to_advances);
-    let offsets_same = cases::same(body, &mut at, to_offsets);
+    let numbered = cases::same_stored(body, &mut at, &[refusals::number(&answer)]);
+    let counted = cases::same_stored(body, &mut at, &[cases::narrow(answer.unwrap_or(0))]);
+    let glyphs_same = cases::same_stored(body, &mut at, to_glyphs);
+    let widths_same = cases::same_stored(body, &mut at, to_widths);
+    let categories_same = cases::same_stored(body, &mut at, to_categories);
+    let ignorables_same = cases::same_stored(body, &mut at, to_ignorables);
+    let actions_same = cases::same_stored(body, &mut at, to_actions);
+    let advances_same = cases::same_stored(body, &mut at, to_advances);
+    let offsets_same = cases::same_stored(body, &mut at, to_offsets);
     let kept = glyphs_same & (widths_same & (categories_same & (ignorables_same & actions_same)));
     let formed = cases::is_flag(recorded) & (cases::is_flag(rtl) & (at == body.len()));
     tallies::judged(

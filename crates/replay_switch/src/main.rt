@@ -9,7 +9,7 @@ fn replay(body: &[u8]) -> Outcome {
     let mut at: usize = 0;
     let mut needs = [0u8; 4];
     let arabic = columns::view_u8(body, &mut at, 1);
-    let given = columns::take(body, &mut at, &mut needs).len();
+    let given = columns::take_stored(body, &mut at, &mut needs).len();
     let on = fallback::do_fallback(
         cases::first(arabic, 0) == 1,
         Needs {
@@ -19,7 +19,7 @@ fn replay(body: &[u8]) -> Outcome {
             init: needs[3] == 1,
         },
     );
-    let agrees = cases::same(body, &mut at, &[on as u8]);
+    let agrees = cases::same_stored(body, &mut at, &[on as u8]);
     let are_flags = needs.iter().all(|need| *need < 2);
     let formed = (cases::is_flag(arabic) & are_flags) & ((given == 4) & (at == body.len()));
     tallies::judged(formed, agrees)

@@ -23,10 +23,10 @@ fn replay(body: &[u8]) -> Outcome {
     let mut at: usize = 0;
     let mut codes_room = [0u32; 4200];
     let mut room = [0u8; 4200];
-    let codes = columns::take(body, &mut at, &mut codes_room);
+    let codes = columns::take_stored(body, &mut at, &mut codes_room);
     let types = &mut room[..codes.len()];
     let alone = look_up(codes, types);
-    let agrees = cases::same(body, &mut at, types);
+    let agrees = cases::same_stored(body, &mut at, types);
     tallies::judged(at == body.len(), agrees & alone)
 }
 

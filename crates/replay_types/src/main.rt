@@ -20,7 +20,7 @@ fn replay(body: &[u8]) -> Outcome {
     let types = columns::view_u8(body, &mut at, 4200);
     let categories = columns::view_u8(body, &mut at, 4200);
     let n = resolve(types, categories, &mut room);
-    let agrees = cases::same(body, &mut at, replays::front(&room, n));
+    let agrees = cases::same_stored(body, &mut at, replays::front(&room, n));
     let formed = (types.len() == categories.len()) & (at == body.len());
     tallies::judged(formed, agrees)
 }

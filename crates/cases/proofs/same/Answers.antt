@@ -1,21 +1,11 @@
--- `cases::same` meets its contract: of bytes the kit's comparison holds exactly of equal ones, of others the first elements have the bits of those of `got`, the others lie from `k` on.
+-- `cases::same` meets its contract: the first elements have the bits of those of `got`, the others lie from `k` on.
 -- Assumes nothing.
-use mathlib.Core.Bool.{Bool}
 use mathlib.Core.Path.{sym, ap, ◌∙◌}
 use lib.ListN.{length-map}
 use Rattle.std.proofs.lemmas.List.{get_or-map}
 use Rattle.columns.proofs.FormLaws.{found, passed_none, passed_equal, length-elements}
-use Rattle.cases.specs.Comparing.{Compare, against}
-use Rattle.cases.proofs.ComparingLaws.{same-told, same_count, passed-same, passed-off, found-compared}
+use Rattle.cases.proofs.ComparingLaws.{same_count, passed-same, passed-off, found-compared}
 use Rattle.cases.proofs.same.Goals as goal
-
-pub returns-in-Some : goal.returns-in-Some
-returns-in-Some g c =
-    let v = c.view_u8 in
-    let bytes = c.in-Some.bytes.now in
-    let held = rw c.in-Some.is at c.held.ensures in
-    rw (held.0, ← held.1)
-    (ap (λ (b : Bool). Compare b v.new.at) (same-told v.result.now bytes c.same.result c.same.ensures) ∙ ap (against bytes) v.ensures)
 
 pub returns-then-s-got : goal.returns-then-s-got
 returns-then-s-got g c =

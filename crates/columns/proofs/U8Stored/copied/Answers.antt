@@ -1,4 +1,4 @@
--- `columns::U8Element::copied` meets its contract: the bytes of a body are its elements of width 1.
+-- `columns::U8Stored::copied` meets its contract: the bytes of a body are its elements of width 1.
 -- Assumes nothing.
 use mathlib.Core.Path.{◌≡◌, ap, ◌∙◌}
 use native.Mathlib.Omega.{arith}
@@ -7,7 +7,7 @@ use lib.Seq.{take_at}
 use Rattle.std.proofs.lemmas.List.{map-id}
 use Rattle.columns.specs.Form.{elements}
 use Rattle.columns.proofs.FormLaws.{bytes_are, length-elements}
-use Rattle.columns.proofs.U8Element.copied.Goals as goal
+use Rattle.columns.proofs.U8Stored.copied.Goals as goal
 
 pub returns-clause-all : goal.returns-clause-all
 returns-clause-all c = λ yes.

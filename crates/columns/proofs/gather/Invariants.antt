@@ -3,7 +3,7 @@ use mathlib.Core.List.{map}
 use mathlib.Core.Path.{◌≡◌}
 use lib.ListN.{length}
 use Rattle.columns.proofs.FormLaws.{Passed}
-use Rattle.columns.proofs.take.Given as goal
+use Rattle.columns.proofs.gather.Given as goal
 
 abbrev pub invariant-loop-i : goal.invariant-loop-i
 invariant-loop-i g l =

@@ -1,5 +1,5 @@
 // A case's columns, as a program uses them: compared at the cursor with what a call gave, or read as one number. They are
-// taken by the crate `columns`; bytes are compared by the kit's own function.
+// taken by the crate `columns`; `same_stored` compares bytes by the kit's own function.
 #![tactic(auto)]
 
 ghost use Rattle.std.specs.Prelude.{◌≡◌, map, get_or};
@@ -27,7 +27,7 @@ pub fn same<T: Element>(body: &[u8], at: &mut usize, got: &[T]) -> bool
     true
 }
 
-// The same, of a kind that says how its elements are held.
+// The same, at once where the elements are held as they lie there.
 pub fn same_stored<T: Stored>(body: &[u8], at: &mut usize, got: &[T]) -> bool
     ensures { Compare result at.new ≡ compared_at body.now T.WIDTH (map T.bits got.now) at.old }
 {

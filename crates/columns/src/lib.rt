@@ -1,8 +1,9 @@
 // A case's body, taken apart: its columns, one after the other, by a cursor.
 //
 // A column that is not of the form, cut short or too long is taken as an empty one, and the cursor is then past every body: from
-// there on every column is empty, so that a caller looks at the cursor once, at the end. Bytes are viewed or copied as they lie there;
-// elements of every other kind are put together by one loop, and one law over the width stands behind it. A column of signed numbers has their bits.
+// there on every column is empty, so that a caller looks at the cursor once, at the end. Bytes are viewed as they lie there, and copied so by
+// `take_stored`; elements of any kind are put together by one loop, and one law over the width stands behind it. A column of signed numbers
+// has their bits.
 #![tactic(auto)]
 
 ghost use Rattle.std.specs.Prelude.{◌≡◌, ℕ, true, false, map, ◌+◌, ◌-◌, ◌*◌, ◌≤◌, length, get_or, take, IfSome};
@@ -58,7 +59,7 @@ pub trait Element: Copy {
         ensures { result ≡ bits self };
 }
 
-// A kind that also says whether its elements are held as they lie in a body. Bytes are: they are copied and compared at once, since one
+// A kind that may also say that its elements are held as they lie in a body. Bytes are: they are copied and compared at once, since one
 // after the other took twice as long where a case has a large area. A kind that says nothing of it counts as one that is not.
 pub trait Stored: Element {
     // Whether elements of this kind are held so, and were copied to the start of `out`.
@@ -222,7 +223,7 @@ pub fn take<'a, T: Element>(body: &[u8], at: &mut usize, out: &'a mut [T]) -> &'
     gather(body, column, out)
 }
 
-// The same, of a kind that says how its elements are held.
+// The same, at once where the elements are held as they lie there.
 pub fn take_stored<'a, T: Stored>(body: &[u8], at: &mut usize, out: &'a mut [T]) -> &'a mut [T]
     ensures { Took (map T.bits result.now) at.new ≡ column_at body.now T.WIDTH (length out.old) at.old }
 {
